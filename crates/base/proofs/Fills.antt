@@ -12,7 +12,7 @@ use native.Mathlib.Omega.{arith}
 use lib.IntN.{ℤ, pos}
 use lib.ListN.{length, getD, set, replicate, length-set, length-replicate, getD-replicate}
 use lib.Seq.{ext-getD, getD-set-same, getD-set-other}
-use Rattle.base.specs.Fill.{fill, zerosLike}
+use Rattle.base.specs.Fill.{fill, tabulate, zerosLike}
 
 module _ {ℓ} {A : Type ℓ} (l : List A) (d : ℕ) (f : ℕ → A) where
   -- nothing stored
@@ -60,3 +60,31 @@ fill-zeros l =
       let stored = getD-fill-in l 0 (λ k. pos 0) (length l) i (pos 0) inside (omega arith) in
       subst (λ (k : ℕ). getD (fill l 0 (length l) (λ k. pos 0)) k (pos 0) ≡ pos 0) (zero-add i) stored
         ∙ sym (getD-replicate (length l) i (pos 0) (pos 0) inside))
+
+-- two lists of one length that agree at every place, whatever stands past the end
+module _ {ℓ} {A : Type ℓ} where
+  pub same-entries : (n : ℕ) (l₁ l₂ : List A) → length l₁ ≡ n → length l₂ ≡ n → ((i : ℕ) (e : A) → i < n → getD l₁ i e ≡ getD l₂ i e) → l₁ ≡ l₂
+  same-entries n [] [] h₁ h₂ each = refl
+  same-entries n [] (y ∷ ys) h₁ h₂ each = absurd (omega arith)
+  same-entries n (x ∷ xs) [] h₁ h₂ each = absurd (omega arith)
+  same-entries n (x ∷ xs) (y ∷ ys) h₁ h₂ each =
+      ext-getD x (x ∷ xs) (y ∷ ys) (h₁ ∙ sym h₂) (λ i h. each i x (omega arith))
+
+  pub length-tabulate : (n : ℕ) (f : ℕ → A) → length (tabulate n f) ≡ n
+  unfolding tabulate
+  length-tabulate zero f = refl
+  length-tabulate (suc n) f = ap suc (length-tabulate n (λ i. f (suc i)))
+
+  pub getD-tabulate : (n : ℕ) (f : ℕ → A) (i : ℕ) (e : A) → i < n → getD (tabulate n f) i e ≡ f i
+  unfolding tabulate
+  getD-tabulate zero f i e h = absurd (omega arith)
+  getD-tabulate (suc n) f zero e h = refl
+  getD-tabulate (suc n) f (suc i) e h = getD-tabulate n (λ k. f (suc k)) i e (omega arith)
+
+  -- a list as long as n is filled whole
+  pub fill-tabulate : (l : List A) (f : ℕ → A) → fill l 0 (length l) f ≡ tabulate (length l) f
+  fill-tabulate l f =
+      same-entries (length l) (fill l 0 (length l) f) (tabulate (length l) f) (length-fill l 0 f (length l)) (length-tabulate (length l) f)
+      (λ i e h.
+        subst (λ (k : ℕ). getD (fill l 0 (length l) f) k e ≡ f i) (zero-add i) (getD-fill-in l 0 f (length l) i e h (omega arith))
+          ∙ sym (getD-tabulate (length l) f i e h))

@@ -130,9 +130,8 @@ fn encode_codeblocks(
                 }
             }
             let has_flag = across * down > 1;
-            let skip = has_flag
-                && options.flag_zero_codeblocks
-                && block.iter().all(|&number| number == 0);
+            let skip =
+                has_flag && options.flag_zero_codeblocks && block.iter().all(|&number| number == 0);
             if has_flag {
                 writer.bit(skip);
             }

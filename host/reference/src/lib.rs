@@ -3,9 +3,9 @@
 //! It states the rules of document 01 as directly as it can, and is used to judge other decoders:
 //! clarity comes before speed. Intermediate numbers are held in 64 or 128 bits and never wrap.
 //!
-//! The three jobs are [`unpack`], [`synthesise`] and [`decode`]; [`analyse`] is the inverse
-//! transform's inverse; [`encode`] makes bodies for tests; [`recording`] reads and writes
-//! recordings; [`jobs`] is the command's plain text job format.
+//! The three jobs are [`unpack()`], [`synthesise`] and [`decode`]; [`analyse`] is the forward
+//! transform; [`mod@encode`] makes bodies for tests; [`recording`] reads and writes recordings;
+//! [`jobs`] is the command's plain text job format.
 
 pub mod codes;
 pub mod encode;
@@ -150,7 +150,9 @@ pub fn analyse(p: &Parameters, plane: &[i128]) -> Result<Analysis, Answer> {
     check_wavelet(p)?;
     check_length(plane.len(), padded_area(p))?;
     assert!(
-        plane.iter().all(|v| v.unsigned_abs() <= ANALYSIS_LIMIT as u128),
+        plane
+            .iter()
+            .all(|v| v.unsigned_abs() <= ANALYSIS_LIMIT as u128),
         "a number beyond the limit of analysis"
     );
     Ok(transform::analyse_plane(p, plane))

@@ -59,7 +59,7 @@ pub fn parse(file: &[u8]) -> Option<Vec<Entry>> {
             return None;
         }
         // A length past the file's end finds no body.
-        let body_end = body_start + length as usize;
+        let body_end = usize::try_from(body_start as u64 + length).ok()?;
         let body = file.get(body_start..body_end)?;
         body_start = body_end;
         entries.push(Entry {

@@ -10,13 +10,13 @@ use crate::params::{
 /// The four types of lifting step.
 #[derive(Clone, Copy, Debug, PartialEq, Eq)]
 pub enum StepType {
-    /// Adds to each A[2n].
+    /// Adds to each `A[2n]`.
     Type1,
-    /// Subtracts from each A[2n].
+    /// Subtracts from each `A[2n]`.
     Type2,
-    /// Adds to each A[2n+1].
+    /// Adds to each `A[2n+1]`.
     Type3,
-    /// Subtracts from each A[2n+1].
+    /// Subtracts from each `A[2n+1]`.
     Type4,
 }
 
@@ -59,12 +59,7 @@ pub struct Filter {
 }
 
 /// A step from its type, first offset, taps and scale.
-const fn step(
-    step_type: StepType,
-    first_offset: i64,
-    taps: &'static [i128],
-    scale: u32,
-) -> Step {
+const fn step(step_type: StepType, first_offset: i64, taps: &'static [i128], scale: u32) -> Step {
     Step {
         step_type,
         first_offset,

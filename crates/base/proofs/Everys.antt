@@ -1,0 +1,61 @@
+-- The laws of `allBelow`: one more test, and from the test of all to each and back.
+-- Assumes nothing.
+use mathlib.Core.Path.{_≡_, refl, sym, ap, _∙_}
+use mathlib.Core.Bool.{Bool, true, false, _&&_}
+use Prim.Native.Nat.{ℕ, zero, suc, _+_, _<_}
+use native.Mathlib.Numerals.{add-one}
+use native.Mathlib.Decide.{decLt}
+use native.Mathlib.Omega.{arith}
+use Rattle.base.specs.Every.{allBelow}
+
+-- both sides of a conjunction that holds, and a conjunction with a side that fails
+pub and-left : (a b : Bool) → a && b ≡ true → a ≡ true
+and-left true b e = refl
+and-left false b e = e
+
+pub and-right : (a b : Bool) → a && b ≡ true → b ≡ true
+and-right true b e = e
+and-right false b e = cc
+
+pub and-true : (a b : Bool) → a ≡ true → b ≡ true → a && b ≡ true
+and-true a b ea eb = rw (ea, eb)
+
+pub and-false : (a b : Bool) → b ≡ false → a && b ≡ false
+and-false true b e = e
+and-false false b e = refl
+
+module _ (test : ℕ → Bool) where
+  pub all-none : allBelow 0 test ≡ true
+  unfolding allBelow
+  all-none = refl
+
+  pub all-more : (n : ℕ) → allBelow (n + 1) test ≡ allBelow n test && test n
+  unfolding allBelow
+  all-more n = ap (λ (k : ℕ). allBelow k test) (add-one n)
+
+  pub all-at : (n k : ℕ) → allBelow n test ≡ true → k < n → test k ≡ true
+  unfolding allBelow
+  all-at zero k e h = absurd (omega arith)
+  all-at (suc n) k e h =
+      elim (decLt k n) [
+        yes below ↦ all-at n k (and-left (allBelow n test) (test n) e) below
+      | no notBelow ↦
+          let last : n ≡ k = omega arith in
+          rw (← last) (and-right (allBelow n test) (test n) e)
+      ]
+
+  pub all-from : (n : ℕ) → ((k : ℕ) → k < n → test k ≡ true) → allBelow n test ≡ true
+  unfolding allBelow
+  all-from zero each = refl
+  all-from (suc n) each = and-true (allBelow n test) (test n) (all-from n (λ k h. each k (omega arith))) (each n (omega arith))
+
+  pub all-not : (n k : ℕ) → k < n → test k ≡ false → allBelow n test ≡ false
+  unfolding allBelow
+  all-not zero k h e = absurd (omega arith)
+  all-not (suc n) k h e =
+      elim (decLt k n) [
+        yes below ↦ rw (all-not n k below e)
+      | no notBelow ↦
+          let last : n ≡ k = omega arith in
+          and-false (allBelow n test) (test n) (rw last e)
+      ]

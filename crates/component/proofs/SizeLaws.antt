@@ -1,0 +1,44 @@
+-- Laws of padded sizes and band sizes.
+-- Assumes nothing.
+use mathlib.Core.Path.{_≡_, refl, sym, ap, _∙_, subst}
+use mathlib.Core.Logic.{_≢_}
+use Prim.Native.Nat.{ℕ, zero, suc, _+_, _-_, _*_, _/_, _%_, _^_, _≤_, _<_}
+use native.Mathlib.Omega.{arith}
+use Rattle.component.specs.Sizes.{paddedSize, bandSize}
+
+-- what holds at each depth that is allowed
+pub at-depths : (P : ℕ → Type 0) → P 0 → P 1 → P 2 → P 3 → P 4 → (depth : ℕ) → depth ≤ 4 → P depth
+at-depths P p0 p1 p2 p3 p4 zero h = p0
+at-depths P p0 p1 p2 p3 p4 (suc zero) h = p1
+at-depths P p0 p1 p2 p3 p4 (suc (suc zero)) h = p2
+at-depths P p0 p1 p2 p3 p4 (suc (suc (suc zero))) h = p3
+at-depths P p0 p1 p2 p3 p4 (suc (suc (suc (suc zero)))) h = p4
+at-depths P p0 p1 p2 p3 p4 (suc (suc (suc (suc (suc n))))) h = absurd (omega arith)
+
+-- 2^depth as the code computes it, and its bounds
+pub power : (depth : ℕ) → depth ≤ 4 → (1 * 2 ^ depth) % 2 ^ 64 ≡ 2 ^ depth
+power = at-depths (λ d. (1 * 2 ^ d) % 2 ^ 64 ≡ 2 ^ d) refl refl refl refl refl
+
+pub power-bounds : (depth : ℕ) → depth ≤ 4 → (1 ≤ 2 ^ depth) × (2 ^ depth ≤ 16)
+power-bounds = at-depths (λ d. (1 ≤ 2 ^ d) × (2 ^ d ≤ 16)) (omega arith) (omega arith) (omega arith) (omega arith) (omega arith)
+
+-- a padded size is at least the size, and at most 4096 where the size is
+pub padded-least : (depth : ℕ) → depth ≤ 4 → (size : ℕ) → size ≤ paddedSize depth size
+unfolding paddedSize
+padded-least =
+    at-depths (λ d. (size : ℕ) → size ≤ paddedSize d size)
+    (λ size. omega arith) (λ size. omega arith) (λ size. omega arith) (λ size. omega arith) (λ size. omega arith)
+
+pub padded-most : (depth : ℕ) → depth ≤ 4 → (size : ℕ) → size ≤ 4096 → paddedSize depth size ≤ 4096
+unfolding paddedSize
+padded-most =
+    at-depths (λ d. (size : ℕ) → size ≤ 4096 → paddedSize d size ≤ 4096)
+    (λ size h. omega arith) (λ size h. omega arith) (λ size h. omega arith) (λ size h. omega arith) (λ size h. omega arith)
+
+-- "level n from 1", as the code counts
+pub band-size-from-1 : (depth padded level : ℕ) → level ≢ 0 → padded / 2 ^ (depth + 1 - level) ≡ bandSize depth padded level
+unfolding bandSize
+band-size-from-1 depth padded zero h = absurd (h refl)
+band-size-from-1 depth padded (suc n) h =
+    let same : depth + 1 - suc n ≡ depth - n = omega arith in
+    rw same refl

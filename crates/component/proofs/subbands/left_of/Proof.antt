@@ -1,0 +1,27 @@
+-- `component::subbands::left_of` meets its contract: past LL the remainder by 3 tells the orientation.
+-- Assumes nothing.
+use mathlib.Core.Path.{_≡_, sym, ap, _∙_}
+use Prim.Native.Nat.{ℕ, _%_}
+use native.Mathlib.Omega.{arith}
+use borrow.Author.Needs.{needs}
+use Rattle.component.specs.Subbands.{orientation, leftOf, detailOf}
+use Rattle.component.proofs.SubbandLaws.{detail, left-of-LH, left-of-others}
+use Rattle.component.proofs.subbands.left_of.Statement.{statement}
+use Rattle.component.proofs.subbands.left_of.Tie as tie
+
+returns : tie.Need-returns
+unfolding orientation leftOf
+returns c = rw (c .if1 .taken)
+
+returns-2 : tie.Need-returns-2
+returns-2 c =
+    let k = c .before .before .args .k in
+    sym (ap (λ o. leftOf o (c .before .before .args .width)) (detail k (c .before .if1 .left)) ∙ left-of-LH (k % 3) _ (c .if2 .taken))
+
+returns-3 : tie.Need-returns-3
+returns-3 c =
+    let k = c .before .before .args .k in
+    sym (ap (λ o. leftOf o (c .before .before .args .width)) (detail k (c .before .if1 .left)) ∙ left-of-others (k % 3) _ (omega arith) (c .if2 .left))
+
+pub left-of-spec : {M : Type 1} → statement M
+left-of-spec = tie.close (tie.spec returns returns-2 returns-3)

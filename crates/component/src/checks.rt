@@ -1,0 +1,136 @@
+// Document 01, "Refusal numbers": the checks behind refusals 1 to 5.
+ghost use mathlib.Core.Path.{_≡_};
+ghost use mathlib.Core.Bool.{true, not, _&&_};
+ghost use Rattle.component.specs.Checks.{inRange, unpacks, transforms, areaOf, sizesInRange, depthInRange, waveletInRange, codeblocksInRange, planesFit, refusalOf};
+use crate::parameters::{Job, Lengths, Parameters};
+use crate::sizes::padded_size;
+
+// The first of refusals 1 to 5 that applies to a job, in the order of their numbers, or 0.
+pub fn refusal(job: Job, p: Parameters, lengths: Lengths) -> u32
+    ensures { λ r. ⌜ r ≡ refusalOf job p lengths ⌝ }
+{
+    if !sizes_in_range(p) {
+        return 1;
+    }
+    if !in_range(0, 4, p.depth) {
+        return 2;
+    }
+    if wavelet_refused(job, p) {
+        return 3;
+    }
+    if codeblocks_refused(job, p) {
+        return 4;
+    }
+    if !planes_fit(job, p, lengths) {
+        return 5;
+    }
+    0
+}
+
+// Whether the number lies in a range, both ends included.
+fn in_range(low: u32, high: u32, n: u32) -> bool
+    ensures { λ r. ⌜ r ≡ inRange low high n ⌝ }
+{
+    low <= n && n <= high
+}
+
+// Whether a job looks at the wavelet index and finds it out of range.
+fn wavelet_refused(job: Job, p: Parameters) -> bool
+    ensures { λ r. ⌜ r ≡ transforms job && not (waveletInRange p) ⌝ }
+{
+    if transforms(job) {
+        !in_range(0, 6, p.wavelet)
+    } else {
+        false
+    }
+}
+
+// Whether a job looks at the codeblock counts and finds one out of range.
+fn codeblocks_refused(job: Job, p: Parameters) -> bool
+    requires { ⌜ depthInRange p ≡ true ⌝ }
+    ensures { λ r. ⌜ r ≡ unpacks job && not (codeblocksInRange p) ⌝ }
+{
+    if unpacks(job) {
+        !codeblocks_in_range(p)
+    } else {
+        false
+    }
+}
+
+// Whether a job reads bytes into coefficients.
+fn unpacks(job: Job) -> bool
+    ensures { λ r. ⌜ r ≡ unpacks job ⌝ }
+{
+    match job {
+        Job::Unpack => true,
+        Job::Synthesise => false,
+        Job::Decode => true,
+    }
+}
+
+// Whether a job makes samples of coefficients.
+fn transforms(job: Job) -> bool
+    ensures { λ r. ⌜ r ≡ transforms job ⌝ }
+{
+    match job {
+        Job::Unpack => false,
+        Job::Synthesise => true,
+        Job::Decode => true,
+    }
+}
+
+// Whether width and height are in range.
+fn sizes_in_range(p: Parameters) -> bool
+    ensures { λ r. ⌜ r ≡ sizesInRange p ⌝ }
+{
+    in_range(1, 4096, p.width) && in_range(1, 4096, p.height)
+}
+
+// Whether the codeblock counts of levels 0 to depth are in range.
+fn codeblocks_in_range(p: Parameters) -> bool
+    requires { ⌜ depthInRange p ≡ true ⌝ }
+    ensures { λ r. ⌜ r ≡ codeblocksInRange p ⌝ }
+{
+    let depth = p.depth as usize;
+    let across = p.codeblocks_across;
+    let down = p.codeblocks_down;
+    let mut level = 0;
+    while level <= depth {
+        if !counts_in_range(across[level], down[level]) {
+            return false;
+        }
+        level += 1;
+    }
+    true
+}
+
+// Whether a level's two codeblock counts are in range.
+fn counts_in_range(across: u32, down: u32) -> bool
+    ensures { λ r. ⌜ r ≡ inRange 1 255 across && inRange 1 255 down ⌝ }
+{
+    in_range(1, 255, across) && in_range(1, 255, down)
+}
+
+// Whether each plane that a job is lent has exactly the length it needs.
+fn planes_fit(job: Job, p: Parameters, lengths: Lengths) -> bool
+    requires { ⌜ (sizesInRange p ≡ true) × (depthInRange p ≡ true) ⌝ }
+    ensures { λ r. ⌜ r ≡ planesFit job p lengths ⌝ }
+{
+    let area = padded_area(p);
+    if lengths.coefficients != area {
+        return false;
+    }
+    if !transforms(job) {
+        return true;
+    }
+    lengths.work == area && lengths.samples == (p.width as usize) * (p.height as usize)
+}
+
+// How many entries the coefficient plane has.
+pub fn padded_area(p: Parameters) -> usize
+    requires { ⌜ (sizesInRange p ≡ true) × (depthInRange p ≡ true) ⌝ }
+    ensures { λ r. ⌜ r ≡ areaOf p ⌝ }
+{
+    let depth = p.depth as usize;
+    padded_size(depth, p.width as usize) * padded_size(depth, p.height as usize)
+}

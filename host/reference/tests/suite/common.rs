@@ -1,0 +1,113 @@
+//! Helpers shared by the tests.
+
+use reference::codes::BitWriter;
+use reference::jobs::INITIAL_ENTRY;
+use reference::params::{padded_area, sample_area};
+use reference::{decode, synthesise, unpack, Answer, Parameters};
+
+/// Parameters with one codeblock at every level.
+pub fn parameters(width: u32, height: u32, depth: u32, wavelet: u32, intra: bool) -> Parameters {
+    Parameters {
+        width,
+        height,
+        depth,
+        wavelet,
+        intra,
+        codeblocks_across: [1; 5],
+        codeblocks_down: [1; 5],
+    }
+}
+
+/// The same parameters with these codeblock counts at one level.
+pub fn with_codeblocks(p: &Parameters, level: usize, across: u32, down: u32) -> Parameters {
+    let mut p = p.clone();
+    p.codeblocks_across[level] = across;
+    p.codeblocks_down[level] = down;
+    p
+}
+
+/// A status and a place.
+pub fn answer(status: u32, place: u64) -> Answer {
+    Answer { status, place }
+}
+
+/// Unpack with a plane of the right length: the answer and the plane.
+pub fn run_unpack(p: &Parameters, bytes: &[u8]) -> (Answer, Vec<i32>) {
+    let mut coefficients = vec![INITIAL_ENTRY; padded_area(p)];
+    let answer = unpack(p, bytes, &mut coefficients);
+    (answer, coefficients)
+}
+
+/// Synthesise with planes of the right lengths: the answer, work and samples.
+pub fn run_synthesise(p: &Parameters, coefficients: &[i32]) -> (Answer, Vec<i32>, Vec<i32>) {
+    let mut work = vec![INITIAL_ENTRY; padded_area(p)];
+    let mut samples = vec![INITIAL_ENTRY; sample_area(p)];
+    let answer = synthesise(p, coefficients, &mut work, &mut samples);
+    (answer, work, samples)
+}
+
+/// Decode with planes of the right lengths: the answer, coefficients, work and samples.
+pub fn run_decode(p: &Parameters, bytes: &[u8]) -> (Answer, Vec<i32>, Vec<i32>, Vec<i32>) {
+    let mut coefficients = vec![INITIAL_ENTRY; padded_area(p)];
+    let mut work = vec![INITIAL_ENTRY; padded_area(p)];
+    let mut samples = vec![INITIAL_ENTRY; sample_area(p)];
+    let answer = decode(p, bytes, &mut coefficients, &mut work, &mut samples);
+    (answer, coefficients, work, samples)
+}
+
+/// The bytes of a text of 0s and 1s, spaces passed over, the last byte filled up with 0s.
+pub fn bits(text: &str) -> Vec<u8> {
+    let mut writer = BitWriter::new();
+    for digit in text.chars().filter(|digit| *digit != ' ') {
+        writer.bit(digit == '1');
+    }
+    writer.to_bytes(false)
+}
+
+/// One subband's bytes: a header for this data and index, then the data.
+pub fn subband_bytes(quantiser: u64, data: &[u8]) -> Vec<u8> {
+    let mut header = BitWriter::new();
+    header.number(data.len() as u64);
+    header.number(quantiser);
+    let mut bytes = header.to_bytes(false);
+    bytes.extend(data);
+    bytes
+}
+
+/// A small seeded generator (xorshift).
+pub struct Random(u64);
+
+impl Random {
+    /// A generator for a seed.
+    pub fn new(seed: u64) -> Random {
+        let mut random = Random(seed.wrapping_mul(0x9E37_79B9_7F4A_7C15) | 1);
+        for _ in 0..8 {
+            random.next();
+        }
+        random
+    }
+
+    /// The next 64 bits.
+    pub fn next(&mut self) -> u64 {
+        self.0 ^= self.0 << 13;
+        self.0 ^= self.0 >> 7;
+        self.0 ^= self.0 << 17;
+        self.0
+    }
+
+    /// A number from low to high, both included.
+    pub fn range(&mut self, low: i64, high: i64) -> i64 {
+        let span = (high - low) as u64 + 1;
+        low + ((self.next() >> 11) % span) as i64
+    }
+
+    /// Either truth.
+    pub fn flag(&mut self) -> bool {
+        self.range(0, 1) == 1
+    }
+
+    /// One of these.
+    pub fn pick<T: Copy>(&mut self, choices: &[T]) -> T {
+        choices[self.range(0, choices.len() as i64 - 1) as usize]
+    }
+}
