@@ -2,3 +2,4 @@
 pub mod SizeLaws
 pub mod CheckLaws
 pub mod SubbandLaws
+pub mod Tiling

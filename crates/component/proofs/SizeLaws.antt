@@ -3,8 +3,10 @@
 use mathlib.Core.Path.{_≡_, refl, sym, ap, _∙_, subst}
 use mathlib.Core.Logic.{_≢_}
 use Prim.Native.Nat.{ℕ, zero, suc, _+_, _-_, _*_, _/_, _%_, _^_, _≤_, _<_}
+use native.Mathlib.Nat.{add-sub-cancel, mul-assoc, mul-comm, mul-div-cancel, pow-suc}
 use native.Mathlib.Omega.{arith}
-use Rattle.component.specs.Sizes.{paddedSize, bandSize}
+use lib.Pow.{pow-pos, pow-add}
+use Rattle.component.specs.Sizes.{paddedSize, bandSize, sizeAt}
 
 -- what holds at each depth that is allowed
 pub at-depths : (P : ℕ → Type 0) → P 0 → P 1 → P 2 → P 3 → P 4 → (depth : ℕ) → depth ≤ 4 → P depth
@@ -42,3 +44,33 @@ band-size-from-1 depth padded zero h = absurd (h refl)
 band-size-from-1 depth padded (suc n) h =
     let same : depth + 1 - suc n ≡ depth - n = omega arith in
     rw same refl
+
+-- doubling n times multiplies by 2^n
+pub sizeAt-power : (size n : ℕ) → sizeAt size n ≡ size * 2 ^ n
+unfolding sizeAt
+sizeAt-power size zero = omega arith
+sizeAt-power size (suc n) =
+    let step : 2 ^ suc n ≡ 2 ^ n * 2 = pow-suc 2 n in
+    let regrouped : size * (2 ^ n * 2) ≡ size * 2 ^ n * 2 = sym (mul-assoc size (2 ^ n) 2) in
+    rw (step, regrouped, sizeAt-power size n) (omega arith)
+
+-- LL of a padded size is the ceiling that the size was rounded up by
+low-size : (depth size : ℕ) → bandSize depth (paddedSize depth size) 0 ≡ (size + (2 ^ depth - 1)) / 2 ^ depth
+unfolding bandSize paddedSize
+low-size depth size = mul-div-cancel _ (pow-pos depth)
+
+-- the padded size is the size of the last picture
+pub padded-sizeAt : (depth size : ℕ) → paddedSize depth size ≡ sizeAt (bandSize depth (paddedSize depth size) 0) depth
+unfolding paddedSize
+padded-sizeAt depth size = sym (sizeAt-power _ depth ∙ ap (λ (q : ℕ). q * 2 ^ depth) (low-size depth size))
+
+-- the bands of level n + 1 have the size of the picture of depth n
+pub band-sizeAt : (depth size n : ℕ) → n ≤ depth → bandSize depth (paddedSize depth size) (suc n) ≡ sizeAt (bandSize depth (paddedSize depth size) 0) n
+unfolding bandSize paddedSize
+band-sizeAt depth size n h =
+    let q = (size + (2 ^ depth - 1)) / 2 ^ depth in
+    let whole : depth ≡ n + (depth - n) = omega arith in
+    let split : q * 2 ^ depth ≡ q * 2 ^ n * 2 ^ (depth - n) =
+          ap (λ (d : ℕ). q * 2 ^ d) whole ∙ ap (λ (x : ℕ). q * x) (pow-add 2 n (depth - n)) ∙ sym (mul-assoc q (2 ^ n) (2 ^ (depth - n))) in
+    ap (λ (x : ℕ). x / 2 ^ (depth - n)) split ∙ mul-div-cancel (q * 2 ^ n) (pow-pos (depth - n))
+      ∙ sym (sizeAt-power _ n ∙ ap (λ (x : ℕ). x * 2 ^ n) (low-size depth size))

@@ -9,3 +9,8 @@ paddedSize depth size = (size + (2 ^ depth - 1)) / 2 ^ depth * 2 ^ depth
 unfoldable pub bandSize : ℕ → ℕ → ℕ → ℕ
 bandSize depth padded zero = padded / 2 ^ depth
 bandSize depth padded (suc n) = padded / 2 ^ (depth - n)
+
+-- The height or width of the picture of depth n, from that of LL: each level doubles it.
+unfoldable pub sizeAt : ℕ → ℕ → ℕ
+sizeAt size zero = size
+sizeAt size (suc n) = 2 * sizeAt size n
