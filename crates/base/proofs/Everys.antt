@@ -38,10 +38,10 @@ module _ (test : ℕ → Bool) where
   all-at zero k e h = absurd (omega arith)
   all-at (suc n) k e h =
       elim (decLt k n) [
-        yes below ↦ all-at n k (and-left (allBelow n test) (test n) e) below
-      | no notBelow ↦
-          let last : n ≡ k = omega arith in
-          rw (← last) (and-right (allBelow n test) (test n) e)
+        | yes below ↦ all-at n k (and-left (allBelow n test) (test n) e) below
+        | no notBelow ↦
+            let last : n ≡ k = omega arith in
+            rw (← last) (and-right (allBelow n test) (test n) e)
       ]
 
   pub all-from : (n : ℕ) → ((k : ℕ) → k < n → test k ≡ true) → allBelow n test ≡ true
@@ -54,8 +54,8 @@ module _ (test : ℕ → Bool) where
   all-not zero k h e = absurd (omega arith)
   all-not (suc n) k h e =
       elim (decLt k n) [
-        yes below ↦ rw (all-not n k below e)
-      | no notBelow ↦
-          let last : n ≡ k = omega arith in
-          and-false (allBelow n test) (test n) (rw last e)
+        | yes below ↦ rw (all-not n k below e)
+        | no notBelow ↦
+            let last : n ≡ k = omega arith in
+            and-false (allBelow n test) (test n) (rw last e)
       ]

@@ -36,11 +36,11 @@ module _ {ℓ} {A : Type ℓ} (l : List A) (d : ℕ) (f : ℕ → A) where
   getD-fill-in zero i e h inside = absurd (omega arith)
   getD-fill-in (suc n) i e h inside =
       elim (decLt i n) [
-        yes below ↦ getD-set-other (fill l d n f) (d + n) (d + i) (f n) e (omega arith) ∙ getD-fill-in n i e below inside
-      | no notBelow ↦
-          let last : n ≡ i = omega arith in
-          let room : d + n < length (fill l d n f) = rw (length-fill n, last) inside in
-          rw (← last) (getD-set-same (fill l d n f) (d + n) (f n) e room)
+        | yes below ↦ getD-set-other (fill l d n f) (d + n) (d + i) (f n) e (omega arith) ∙ getD-fill-in n i e below inside
+        | no notBelow ↦
+            let last : n ≡ i = omega arith in
+            let room : d + n < length (fill l d n f) = rw (length-fill n, last) inside in
+            rw (← last) (getD-set-same (fill l d n f) (d + n) (f n) e room)
       ]
 
   -- a place before or after
@@ -56,10 +56,10 @@ fill-zeros l =
     ext-getD (pos 0) (fill l 0 (length l) (λ k. pos 0)) (replicate (length l) (pos 0))
     (length-fill l 0 (λ k. pos 0) (length l) ∙ sym (length-replicate (length l) (pos 0)))
     (λ i h.
-      let inside : i < length l = subst (λ (n : ℕ). i < n) (length-fill l 0 (λ k. pos 0) (length l)) h in
-      let stored = getD-fill-in l 0 (λ k. pos 0) (length l) i (pos 0) inside (omega arith) in
-      subst (λ (k : ℕ). getD (fill l 0 (length l) (λ k. pos 0)) k (pos 0) ≡ pos 0) (zero-add i) stored
-        ∙ sym (getD-replicate (length l) i (pos 0) (pos 0) inside))
+    let inside : i < length l = subst (λ (n : ℕ). i < n) (length-fill l 0 (λ k. pos 0) (length l)) h in
+    let stored = getD-fill-in l 0 (λ k. pos 0) (length l) i (pos 0) inside (omega arith) in
+    subst (λ (k : ℕ). getD (fill l 0 (length l) (λ k. pos 0)) k (pos 0) ≡ pos 0) (zero-add i) stored
+    ∙ sym (getD-replicate (length l) i (pos 0) (pos 0) inside))
 
 -- two lists of one length that agree at every place, whatever stands past the end
 module _ {ℓ} {A : Type ℓ} where
@@ -86,5 +86,5 @@ module _ {ℓ} {A : Type ℓ} where
   fill-tabulate l f =
       same-entries (length l) (fill l 0 (length l) f) (tabulate (length l) f) (length-fill l 0 f (length l)) (length-tabulate (length l) f)
       (λ i e h.
-        subst (λ (k : ℕ). getD (fill l 0 (length l) f) k e ≡ f i) (zero-add i) (getD-fill-in l 0 f (length l) i e h (omega arith))
-          ∙ sym (getD-tabulate (length l) f i e h))
+      subst (λ (k : ℕ). getD (fill l 0 (length l) f) k e ≡ f i) (zero-add i) (getD-fill-in l 0 f (length l) i e h (omega arith))
+      ∙ sym (getD-tabulate (length l) f i e h))

@@ -71,6 +71,6 @@ band-sizeAt depth size n h =
     let q = (size + (2 ^ depth - 1)) / 2 ^ depth in
     let whole : depth ≡ n + (depth - n) = omega arith in
     let split : q * 2 ^ depth ≡ q * 2 ^ n * 2 ^ (depth - n) =
-          ap (λ (d : ℕ). q * 2 ^ d) whole ∙ ap (λ (x : ℕ). q * x) (pow-add 2 n (depth - n)) ∙ sym (mul-assoc q (2 ^ n) (2 ^ (depth - n))) in
+    ap (λ (d : ℕ). q * 2 ^ d) whole ∙ ap (λ (x : ℕ). q * x) (pow-add 2 n (depth - n)) ∙ sym (mul-assoc q (2 ^ n) (2 ^ (depth - n))) in
     ap (λ (x : ℕ). x / 2 ^ (depth - n)) split ∙ mul-div-cancel (q * 2 ^ n) (pow-pos (depth - n))
-      ∙ sym (sizeAt-power _ n ∙ ap (λ (x : ℕ). x * 2 ^ n) (low-size depth size))
+    ∙ sym (sizeAt-power _ n ∙ ap (λ (x : ℕ). x * 2 ^ n) (low-size depth size))

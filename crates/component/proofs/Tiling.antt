@@ -22,18 +22,18 @@ pub record ExactlyOne (subband : ℕ → Subband) (count row column : ℕ) : Typ
 three : (P : ℕ → Type 0) (n j : ℕ) → (j < 1 + 3 * n → ⊥) → j < 1 + 3 * suc n → P (3 * n + 1) → P (3 * n + 2) → P (3 * n + 3) → P j
 three P n j old new p1 p2 p3 =
     elim (decLt j (3 * n + 2)) [
-      yes first ↦
-        let e : 3 * n + 1 ≡ j = omega arith in
-        subst P e p1
-    | no later ↦
-        elim (decLt j (3 * n + 3)) [
-          yes second ↦
-            let e : 3 * n + 2 ≡ j = omega arith in
-            subst P e p2
-        | no third ↦
-            let e : 3 * n + 3 ≡ j = omega arith in
-            subst P e p3
-        ]
+      | yes first ↦
+          let e : 3 * n + 1 ≡ j = omega arith in
+          subst P e p1
+      | no later ↦
+          elim (decLt j (3 * n + 3)) [
+            | yes second ↦
+                let e : 3 * n + 2 ≡ j = omega arith in
+                subst P e p2
+            | no third ↦
+                let e : 3 * n + 3 ≡ j = omega arith in
+                subst P e p3
+          ]
     ]
 
 module _ (depth width height : ℕ) where
@@ -88,13 +88,13 @@ module _ (depth width height : ℕ) where
         omega (arith, here)
     inner (suc n) j deep old lies =
         elim (decLt j (1 + 3 * n)) [
-          yes below ↦ omega (arith, inner n j (omega arith) below lies, grows n)
-        | no above ↦
-            three (λ k. In k → (row < H (suc n)) × (column < W (suc n))) n j above old
-            (λ l. let here = rw (hl n (omega arith)) at l in omega (arith, here, grows n))
-            (λ l. let here = rw (lh n (omega arith)) at l in omega (arith, here, grows n))
-            (λ l. let here = rw (hh n (omega arith)) at l in omega (arith, here, grows n))
-            lies
+          | yes below ↦ omega (arith, inner n j (omega arith) below lies, grows n)
+          | no above ↦
+              three (λ k. In k → (row < H (suc n)) × (column < W (suc n))) n j above old
+              (λ l. let here = rw (hl n (omega arith)) at l in omega (arith, here, grows n))
+              (λ l. let here = rw (lh n (omega arith)) at l in omega (arith, here, grows n))
+              (λ l. let here = rw (hh n (omega arith)) at l in omega (arith, here, grows n))
+              lies
         ]
 
     -- an entry of the picture of depth n is in no subband of level n + 1
@@ -105,15 +105,15 @@ module _ (depth width height : ℕ) where
           counted = omega (arith, one .counted);
           lies = one .lies;
           alone = λ j h l.
-            elim (decLt j (1 + 3 * n)) [
-              yes below ↦ one .alone j below l
-            | no above ↦
-                three (λ k. In k → k ≡ one .index) n j above h
-                (λ q. let here = rw (hl n (omega arith)) at q in absurd (omega (arith, here)))
-                (λ q. let here = rw (lh n (omega arith)) at q in absurd (omega (arith, here)))
-                (λ q. let here = rw (hh n (omega arith)) at q in absurd (omega (arith, here)))
-                l
-            ]
+              elim (decLt j (1 + 3 * n)) [
+                | yes below ↦ one .alone j below l
+                | no above ↦
+                    three (λ k. In k → k ≡ one .index) n j above h
+                    (λ q. let here = rw (hl n (omega arith)) at q in absurd (omega (arith, here)))
+                    (λ q. let here = rw (lh n (omega arith)) at q in absurd (omega (arith, here)))
+                    (λ q. let here = rw (hh n (omega arith)) at q in absurd (omega (arith, here)))
+                    l
+              ];
         }
 
     -- an entry outside it is in none of the earlier subbands
@@ -126,12 +126,12 @@ module _ (depth width height : ℕ) where
           counted = counted;
           lies = lies;
           alone = λ j h l.
-            elim (decLt j (1 + 3 * n)) [
-              yes below ↦
-                let old = inner n j (omega arith) below l in
-                absurd (outside (old .0) (old .1))
-            | no above ↦ three (λ k. In k → k ≡ i) n j above h first second third l
-            ]
+              elim (decLt j (1 + 3 * n)) [
+                | yes below ↦
+                    let old = inner n j (omega arith) below l in
+                    absurd (outside (old .0) (old .1))
+                | no above ↦ three (λ k. In k → k ≡ i) n j above h first second third l
+              ];
         }
 
     one-of : (n : ℕ) → n ≤ depth → row < H n → column < W n → ExactlyOne S (1 + 3 * n) row column
@@ -140,36 +140,36 @@ module _ (depth width height : ℕ) where
           index = 0;
           counted = omega arith;
           lies = rw ll (record { below-top = omega arith; above-bottom = omega arith; right-of-left = omega arith; left-of-right = omega arith });
-          alone = λ j h l. omega arith
+          alone = λ j h l. omega arith;
         }
     one-of (suc n) deep rows columns =
         let shallow : n ≤ depth = omega arith in
         elim (decLt row (H n)) [
-          yes upper ↦
-            elim (decLt column (W n)) [
-              yes left ↦ old-one n deep upper left (one-of n shallow upper left)
-            | no right ↦
-                new-one n (3 * n + 1) deep (λ r c. right c) (omega arith)
-                (rw (hl n shallow) (record { below-top = omega arith; above-bottom = omega arith; right-of-left = omega arith; left-of-right = omega (arith, grows n) }))
-                (λ q. refl)
-                (λ q. let here = rw (lh n shallow) at q in omega (arith, here))
-                (λ q. let here = rw (hh n shallow) at q in omega (arith, here))
-            ]
-        | no lower ↦
-            elim (decLt column (W n)) [
-              yes left ↦
-                new-one n (3 * n + 2) deep (λ r c. lower r) (omega arith)
-                (rw (lh n shallow) (record { below-top = omega arith; above-bottom = omega (arith, grows n); right-of-left = omega arith; left-of-right = omega arith }))
-                (λ q. let here = rw (hl n shallow) at q in omega (arith, here))
-                (λ q. refl)
-                (λ q. let here = rw (hh n shallow) at q in omega (arith, here))
-            | no right ↦
-                new-one n (3 * n + 3) deep (λ r c. right c) (omega arith)
-                (rw (hh n shallow) (record { below-top = omega arith; above-bottom = omega (arith, grows n); right-of-left = omega arith; left-of-right = omega (arith, grows n) }))
-                (λ q. let here = rw (hl n shallow) at q in omega (arith, here))
-                (λ q. let here = rw (lh n shallow) at q in omega (arith, here))
-                (λ q. refl)
-            ]
+          | yes upper ↦
+              elim (decLt column (W n)) [
+                | yes left ↦ old-one n deep upper left (one-of n shallow upper left)
+                | no right ↦
+                    new-one n (3 * n + 1) deep (λ r c. right c) (omega arith)
+                    (rw (hl n shallow) (record { below-top = omega arith; above-bottom = omega arith; right-of-left = omega arith; left-of-right = omega (arith, grows n) }))
+                    (λ q. refl)
+                    (λ q. let here = rw (lh n shallow) at q in omega (arith, here))
+                    (λ q. let here = rw (hh n shallow) at q in omega (arith, here))
+              ]
+          | no lower ↦
+              elim (decLt column (W n)) [
+                | yes left ↦
+                    new-one n (3 * n + 2) deep (λ r c. lower r) (omega arith)
+                    (rw (lh n shallow) (record { below-top = omega arith; above-bottom = omega (arith, grows n); right-of-left = omega arith; left-of-right = omega arith }))
+                    (λ q. let here = rw (hl n shallow) at q in omega (arith, here))
+                    (λ q. refl)
+                    (λ q. let here = rw (hh n shallow) at q in omega (arith, here))
+                | no right ↦
+                    new-one n (3 * n + 3) deep (λ r c. right c) (omega arith)
+                    (rw (hh n shallow) (record { below-top = omega arith; above-bottom = omega (arith, grows n); right-of-left = omega arith; left-of-right = omega (arith, grows n) }))
+                    (λ q. let here = rw (hl n shallow) at q in omega (arith, here))
+                    (λ q. let here = rw (lh n shallow) at q in omega (arith, here))
+                    (λ q. refl)
+              ]
         ]
 
 -- every entry of the coefficient plane lies in exactly one subband

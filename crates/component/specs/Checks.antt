@@ -48,7 +48,7 @@ areaOf p = paddedSize (p .depth) (p .width) * paddedSize (p .depth) (p .height)
 unfoldable pub planesFit : Job → Parameters → Lengths → Bool
 planesFit job p l =
     eqb (l .coefficients) (areaOf p)
-      && (not (transforms job) || (eqb (l .work) (areaOf p) && eqb (l .samples) (p .width * p .height)))
+    && (not (transforms job) || (eqb (l .work) (areaOf p) && eqb (l .samples) (p .width * p .height)))
 
 -- "Checks run in this order; the first that applies is given." 0 where none does.
 -- "Unpack gives 1, 2, 4, 5 and 6 to 9; synthesise 1, 2, 3, 5 and 10; decode 1 to 10."

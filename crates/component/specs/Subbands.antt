@@ -46,7 +46,7 @@ subbandAt depth pw ph k =
       left = leftOf (orientation k) (bandSize depth pw (subbandLevel k));
       top = topOf (orientation k) (bandSize depth ph (subbandLevel k));
       width = bandSize depth pw (subbandLevel k);
-      height = bandSize depth ph (subbandLevel k)
+      height = bandSize depth ph (subbandLevel k);
     }
 
 -- A row and a column of the coefficient plane lie in the subband.

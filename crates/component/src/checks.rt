@@ -2,7 +2,9 @@
 ghost use mathlib.Core.Path.{_≡_};
 ghost use mathlib.Core.Bool.{true, not, _&&_};
 ghost use Rattle.component.specs.Checks.{inRange, unpacks, transforms, areaOf, sizesInRange, depthInRange, waveletInRange, codeblocksInRange, planesFit, refusalOf};
-use crate::parameters::{Job, Lengths, Parameters};
+use crate::parameters::Job;
+use crate::parameters::Lengths;
+use crate::parameters::Parameters;
 use crate::sizes::padded_size;
 
 // The first of refusals 1 to 5 that applies to a job, in the order of their numbers, or 0.

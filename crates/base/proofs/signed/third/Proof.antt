@@ -53,8 +53,14 @@ returns : tie.Need-returns
 returns c =
     let x = c .before .args .x in
     let small = c .before .fits .x .sfits in
-    rw (back w64 x small, mirror-below x (below c), back w64 (pos (mag x)) small, back w64 (pos (mag x / 3)) (third-small (mag x) small), mirror-pos (mag x / 3),
-        back w64 (negsuc (mag x / 3)) (third-small (mag x) small))
+    rw (
+      back w64 x small,
+      mirror-below x (below c),
+      back w64 (pos (mag x)) small,
+      back w64 (pos (mag x / 3)) (third-small (mag x) small),
+      mirror-pos (mag x / 3),
+      back w64 (negsuc (mag x / 3)) (third-small (mag x) small),
+    )
     (third-below x (below c))
 
 returns-2 : tie.Need-returns-2

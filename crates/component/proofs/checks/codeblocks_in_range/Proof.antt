@@ -58,9 +58,11 @@ loop-less c = omega arith
 
 loop-again : tie.Need-loop-again Inv-loop μ-loop
 loop-again c =
-    let head = c .before .before .before in
-    (head .loop .inv .0, omega arith,
-      all-more _ (head .loop .level) ∙ and-true _ _ (head .loop .inv .2) (sym (c .before .counts-in-range .ensures) ∙ not-false _ (c .if1 .left)))
+    let head = c .before .before .before in (
+      head .loop .inv .0,
+      omega arith,
+      all-more _ (head .loop .level) ∙ and-true _ _ (head .loop .inv .2) (sym (c .before .counts-in-range .ensures) ∙ not-false _ (c .if1 .left)),
+    )
 
 returns-2 : tie.Need-returns-2 Inv-loop μ-loop
 unfolding codeblocksInRange countsInRange

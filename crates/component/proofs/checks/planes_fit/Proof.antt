@@ -40,14 +40,24 @@ returns-3 : tie.Need-returns-3
 unfolding planesFit
 returns-3 c =
     let after = c .before .before .before in
-    rw (← after .before .before .before .before .before .before .padded-area .ensures, eq-eqb _ _ (after .before .before .before .before .if1 .left),
-        ← after .before .before .before .transforms .ensures, not-false (after .before .before .before .transforms .result) (after .before .before .if2 .left), eq-eqb _ _ (after .if3 .taken))
+    rw (
+      ← after .before .before .before .before .before .before .padded-area .ensures,
+      eq-eqb _ _ (after .before .before .before .before .if1 .left),
+      ← after .before .before .before .transforms .ensures,
+      not-false (after .before .before .before .transforms .result) (after .before .before .if2 .left),
+      eq-eqb _ _ (after .if3 .taken),
+    )
 
 returns-4 : tie.Need-returns-4
 unfolding planesFit
 returns-4 c =
-    rw (← c .before .before .before .before .before .before .padded-area .ensures, eq-eqb _ _ (c .before .before .before .before .if1 .left),
-        ← c .before .before .before .transforms .ensures, not-false (c .before .before .before .transforms .result) (c .before .before .if2 .left), ne-eqb _ _ (c .if3 .left))
+    rw (
+      ← c .before .before .before .before .before .before .padded-area .ensures,
+      eq-eqb _ _ (c .before .before .before .before .if1 .left),
+      ← c .before .before .before .transforms .ensures,
+      not-false (c .before .before .before .transforms .result) (c .before .before .if2 .left),
+      ne-eqb _ _ (c .if3 .left),
+    )
 
 pub planes-fit-spec : {M : Type 1} → statement M
 planes-fit-spec =
