@@ -3,7 +3,7 @@
 use mathlib.Core.Path.{_≡_, refl, sym, ap, _∙_, subst}
 use mathlib.Core.Logic.{_≢_}
 use Prim.Native.Nat.{ℕ, zero, suc, _+_, _-_, _*_, _/_, _%_, _^_, _≤_, _<_}
-use native.Mathlib.Nat.{add-sub-cancel, mul-assoc, mul-comm, mul-div-cancel, pow-suc}
+use native.Mathlib.Nat.{mul-assoc, mul-div-cancel, pow-suc, le-div-iff-mul-le, lt-div-mul-add}
 use native.Mathlib.Omega.{arith}
 use lib.Pow.{pow-pos, pow-add}
 use Rattle.component.specs.Sizes.{paddedSize, bandSize, sizeAt}
@@ -25,11 +25,9 @@ pub power-bounds : (depth : ℕ) → depth ≤ 4 → (1 ≤ 2 ^ depth) × (2 ^ d
 power-bounds = at-depths (λ d. (1 ≤ 2 ^ d) × (2 ^ d ≤ 16)) (omega arith) (omega arith) (omega arith) (omega arith) (omega arith)
 
 -- a padded size is at least the size, and at most 4096 where the size is
-pub padded-least : (depth : ℕ) → depth ≤ 4 → (size : ℕ) → size ≤ paddedSize depth size
+pub padded-least : (depth size : ℕ) → size ≤ paddedSize depth size
 unfolding paddedSize
-padded-least =
-    at-depths (λ d. (size : ℕ) → size ≤ paddedSize d size)
-    (λ size. omega arith) (λ size. omega arith) (λ size. omega arith) (λ size. omega arith) (λ size. omega arith)
+padded-least depth size = omega (arith, pow-pos depth, lt-div-mul-add {a = size + (2 ^ depth - 1)} (pow-pos depth))
 
 pub padded-most : (depth : ℕ) → depth ≤ 4 → (size : ℕ) → size ≤ 4096 → paddedSize depth size ≤ 4096
 unfolding paddedSize
@@ -59,10 +57,14 @@ low-size : (depth size : ℕ) → bandSize depth (paddedSize depth size) 0 ≡ (
 unfolding bandSize paddedSize
 low-size depth size = mul-div-cancel _ (pow-pos depth)
 
+-- it is not 0 where the size is not
+pub low-some : (depth size : ℕ) → 1 ≤ size → 1 ≤ bandSize depth (paddedSize depth size) 0
+low-some depth size some = rw (low-size depth size) (le-div-iff-mul-le (pow-pos depth) .1 (omega (arith, pow-pos depth)))
+
 -- the padded size is the size of the last picture
-pub padded-sizeAt : (depth size : ℕ) → paddedSize depth size ≡ sizeAt (bandSize depth (paddedSize depth size) 0) depth
+pub sizeAt-padded : (depth size : ℕ) → sizeAt (bandSize depth (paddedSize depth size) 0) depth ≡ paddedSize depth size
 unfolding paddedSize
-padded-sizeAt depth size = sym (sizeAt-power _ depth ∙ ap (λ (q : ℕ). q * 2 ^ depth) (low-size depth size))
+sizeAt-padded depth size = sizeAt-power _ depth ∙ ap (λ (q : ℕ). q * 2 ^ depth) (low-size depth size)
 
 -- the bands of level n + 1 have the size of the picture of depth n
 pub band-sizeAt : (depth size n : ℕ) → n ≤ depth → bandSize depth (paddedSize depth size) (suc n) ≡ sizeAt (bandSize depth (paddedSize depth size) 0) n

@@ -8,7 +8,7 @@ use native.Mathlib.Omega.{arith}
 use Rattle.component.specs.Sizes.{paddedSize, bandSize, sizeAt}
 use Rattle.component.specs.Subbands.{Orientation, subbandCount, subbandLevel, orientation, detailOf, leftOf, topOf, subbandAt, Lies}
 use Rattle.component.specs.declared.subbands.Subband.{Subband}
-use Rattle.component.proofs.SizeLaws.{padded-sizeAt, band-sizeAt}
+use Rattle.component.proofs.SizeLaws.{sizeAt-padded, band-sizeAt}
 use Rattle.component.proofs.SubbandLaws.{detail, left-of-LH, left-of-others, top-of-HL, top-of-others}
 
 -- exactly one of the subbands below a count has the entry
@@ -178,5 +178,5 @@ pub tiled : (depth width height row column : ℕ) → row < paddedSize depth hei
 unfolding S W H
 tiled depth width height row column inside-rows inside-columns =
     one-of depth width height row column depth (omega arith)
-    (subst (λ (n : ℕ). row < n) (padded-sizeAt depth height) inside-rows)
-    (subst (λ (n : ℕ). column < n) (padded-sizeAt depth width) inside-columns)
+    (subst (λ (n : ℕ). row < n) (sym (sizeAt-padded depth height)) inside-rows)
+    (subst (λ (n : ℕ). column < n) (sym (sizeAt-padded depth width)) inside-columns)

@@ -1,0 +1,101 @@
+-- The laws of a component's planes: its analysis undone, its numbers in range, and the checks that it passes.
+-- Assumes nothing.
+use mathlib.Core.Path.{_≡_, refl, sym, ap, _∙_}
+use mathlib.Core.Bool.{true, not}
+use mathlib.Core.List.{List}
+use Prim.Native.Nat.{ℕ, _+_, _*_, _≤_}
+use native.Mathlib.Nat.{mul-comm}
+use native.Mathlib.Omega.{arith}
+use lib.Arith.{digits-lt}
+use lib.IntN.{ℤ, pos}
+use lib.ListN.{length, getD}
+use borrow.Author.Tests.{eq-eqb}
+use Rattle.base.specs.Every.{allBelow}
+use Rattle.base.specs.Range.{fits32}
+use Rattle.base.proofs.Everys.{and-left, and-right, and-true, all-at}
+use Rattle.component.specs.Sizes.{sizeAt}
+use Rattle.component.specs.Checks.{sizesInRange, depthInRange, waveletInRange, areaOf, planesFit, refusalOf}
+use Rattle.component.specs.declared.parameters.Parameters.{Parameters}
+use Rattle.component.specs.declared.parameters.Job.the-variants.{Synthesise}
+use Rattle.component.proofs.SizeLaws.{padded-least, low-some, sizeAt-padded}
+use Rattle.component.proofs.CheckLaws.{width-least, height-least, refused-none}
+use Rattle.transform.specs.Filters.{filterOf}
+use Rattle.transform.specs.Synthesis.{Picture}
+use Rattle.transform.specs.Analysis.{analysis}
+use Rattle.transform.specs.Planes.{pictureOf, raster}
+use Rattle.transform.specs.Job.{paddedWidth, paddedHeight, lowWidth, lowHeight, pictureFrom, badLevel, lengthsOf, analysed, analysisStaysIn32}
+use Rattle.transform.proofs.Passes.{Agree, AllFit}
+use Rattle.transform.proofs.Levels.{synthesis-back, synthesis-fits}
+use Rattle.transform.proofs.Rasters.{length-raster, picture-raster, raster-is, raster-same}
+
+-- The picture of a padded plane, and what its analysis makes of it.
+abbrev planePicture : Parameters → List ℤ → Picture
+planePicture p plane = pictureOf (paddedWidth p) plane
+
+abbrev analysedPicture : Parameters → List ℤ → Picture
+analysedPicture p plane = analysis (filterOf (p .wavelet)) (lowHeight p) (lowWidth p) (p .depth) (planePicture p plane)
+
+module _ (p : Parameters) (sizes : sizesInRange p ≡ true) where
+  module _ (plane : List ℤ) where
+    -- the coefficients, read as a picture, agree with the analysis
+    coefficients-agree :
+        Agree (sizeAt (lowHeight p) (p .depth)) (sizeAt (lowWidth p) (p .depth))
+        (planePicture p (analysed p plane)) (analysedPicture p plane)
+    unfolding analysed
+    coefficients-agree =
+        rw (sizeAt-padded (p .depth) (p .height), sizeAt-padded (p .depth) (p .width))
+        (picture-raster (paddedHeight p) (paddedWidth p) (analysedPicture p plane))
+
+    -- synthesis of the coefficients gives the plane's picture back
+    picture-back : Agree (paddedHeight p) (paddedWidth p) (pictureFrom p (analysed p plane)) (planePicture p plane)
+    unfolding pictureFrom
+    picture-back =
+        rw (sizeAt-padded (p .depth) (p .height), sizeAt-padded (p .depth) (p .width)) at
+        (synthesis-back (filterOf (p .wavelet)) (lowHeight p) (lowWidth p)
+        (low-some (p .depth) (p .height) (height-least p sizes)) (low-some (p .depth) (p .width) (width-least p sizes))
+        (p .depth) (planePicture p plane) (planePicture p (analysed p plane)) coefficients-agree)
+
+    -- the samples are those of the plane's first rows and columns
+    pub samples-back :
+        raster (p .height) (p .width) (pictureFrom p (analysed p plane)) ≡ raster (p .height) (p .width) (pictureOf (paddedWidth p) plane)
+    samples-back =
+        raster-same (p .height) (p .width) (pictureFrom p (analysed p plane)) (planePicture p plane) (width-least p sizes)
+        (λ row column r c.
+        picture-back row column (omega (arith, padded-least (p .depth) (p .height))) (omega (arith, padded-least (p .depth) (p .width))))
+
+    -- A plane of the right length.
+    module _ (size : length plane ≡ paddedWidth p * paddedHeight p) where
+      -- the whole picture that synthesis makes is the plane
+      pub plane-back : raster (paddedHeight p) (paddedWidth p) (pictureFrom p (analysed p plane)) ≡ plane
+      plane-back =
+          raster-is (paddedHeight p) (paddedWidth p) (pictureFrom p (analysed p plane)) plane
+          (omega (arith, (width-least p sizes), padded-least (p .depth) (p .width))) (rw mul-comm size) picture-back
+
+      -- where its numbers fit, its picture's fit
+      plane-fits :
+          allBelow (length plane) (λ i. fits32 (getD plane i (pos 0))) ≡ true → AllFit (paddedHeight p) (paddedWidth p) (planePicture p plane)
+      unfolding pictureOf
+      plane-fits fit row column r c =
+          all-at (λ i. fits32 (getD plane i (pos 0))) (length plane) (row * paddedWidth p + column) fit
+          (rw (size, mul-comm (paddedWidth p) (paddedHeight p)) (digits-lt r c))
+
+      -- where the numbers of its analysis fit too, no level of synthesis is bad
+      pub no-bad-level : analysisStaysIn32 p plane ≡ true → badLevel p (analysed p plane) ≡ 0
+      unfolding badLevel analysisStaysIn32
+      no-bad-level stays =
+          synthesis-fits (filterOf (p .wavelet)) (lowHeight p) (lowWidth p)
+          (low-some (p .depth) (p .height) (height-least p sizes)) (low-some (p .depth) (p .width) (width-least p sizes))
+          (p .depth) (planePicture p plane) (planePicture p (analysed p plane)) coefficients-agree
+          (rw (sizeAt-padded (p .depth) (p .height), sizeAt-padded (p .depth) (p .width)) (plane-fits (and-left _ _ stays)))
+          (and-right (allBelow (length plane) (λ i. fits32 (getD plane i (pos 0)))) _ stays)
+
+-- coefficients of an analysis, with work and samples of the right lengths, pass the checks
+pub no-refusal :
+    (p : Parameters) → sizesInRange p ≡ true → depthInRange p ≡ true → waveletInRange p ≡ true
+    → (plane work samples : List ℤ) → length work ≡ paddedWidth p * paddedHeight p → length samples ≡ p .width * p .height
+    → refusalOf Synthesise p (lengthsOf (analysed p plane) work samples) ≡ 0
+unfolding planesFit areaOf analysed
+no-refusal p sizes depth wavelet plane work samples workSize samplesSize =
+    let coefficientsSize = length-raster (paddedHeight p) (paddedWidth p) (analysedPicture p plane) ∙ mul-comm (paddedHeight p) (paddedWidth p) in
+    let fit = and-true _ _ (eq-eqb _ _ coefficientsSize) (and-true _ _ (eq-eqb _ _ workSize) (eq-eqb _ _ samplesSize)) in
+    sym (refused-none Synthesise p _ sizes depth (ap not wavelet) refl fit)

@@ -1,0 +1,146 @@
+-- Synthesis after analysis, over any filter, sizes and depth: it gives the picture back, and where analysis stays in signed
+-- 32 bits no level of synthesis leaves them.
+-- Assumes nothing.
+use mathlib.Core.Path.{_≡_, refl, sym, ap, ap₂, _∙_}
+use mathlib.Core.Bool.{Bool, true, false, cond}
+use Prim.Native.Nat.{ℕ, zero, suc, _+_, _*_, _/_, _%_, _≤_, _<_}
+use native.Mathlib.Nat.{add-sub-cancel-left}
+use native.Mathlib.Decide.{ℕ-discrete}
+use native.Mathlib.Omega.{arith}
+use lib.Dec.{eqb}
+use borrow.Author.Tests.{lt-ltb, le-ltb, eq-eqb, ne-eqb}
+use Rattle.base.proofs.Everys.{and-left, and-right}
+use Rattle.component.specs.Sizes.{sizeAt}
+use Rattle.transform.specs.Filters.{Filter}
+use Rattle.transform.specs.Synthesis.{Picture, allNewFit, synthesisPasses, interleave, synthesis, levelFits, firstBadLevel}
+use Rattle.transform.specs.Analysis.{analysisPasses, lowBand, separate, levelAnalysis, analysis, analysisFits}
+use Rattle.transform.proofs.Lifts.{EvenLength}
+use Rattle.transform.proofs.Passes.{Agree, AllFit, Undo, undo-level, runAll-fits, runAll-same, allNewFit-same}
+
+-- a number from its half and its parity
+place : (x : ℕ) → cond (eqb (x % 2) 0) (2 * (x / 2)) (2 * (x / 2) + 1) ≡ x
+place x =
+    elim (ℕ-discrete (x % 2) 0) [
+      | yes even ↦ rw (eq-eqb (x % 2) 0 even) (omega arith)
+      | no odd ↦ rw (ne-eqb (x % 2) 0 odd) (omega arith)
+    ]
+
+-- a choice among four elements is a choice of row and a choice of column
+choice :
+    (P : Picture) (a b : Bool) (r₁ r₂ c₁ c₂ : ℕ)
+    → cond a (cond b (P r₁ c₁) (P r₁ c₂)) (cond b (P r₂ c₁) (P r₂ c₂)) ≡ P (cond a r₁ r₂) (cond b c₁ c₂)
+choice P true true r₁ r₂ c₁ c₂ = refl
+choice P true false r₁ r₂ c₁ c₂ = refl
+choice P false true r₁ r₂ c₁ c₂ = refl
+choice P false false r₁ r₂ c₁ c₂ = refl
+
+-- what stands in LL's place after the separation
+separate-low : (bh bw : ℕ) (low P : Picture) → Agree bh bw (separate bh bw low P) low
+unfolding separate
+separate-low bh bw low P row column r c = rw (lt-ltb row bh, lt-ltb column bw)
+
+-- interleaving undoes the separation
+interleave-back :
+    (bh bw : ℕ) (low rest coefficients P : Picture) → Agree bh bw low (lowBand P)
+    → Agree (2 * bh) (2 * bw) coefficients (separate bh bw rest P) → Agree (2 * bh) (2 * bw) (interleave bh bw low coefficients) P
+unfolding interleave separate lowBand
+interleave-back bh bw low rest coefficients P lows others row column r c =
+    let halfRow : row / 2 < bh = omega arith in
+    let halfColumn : column / 2 < bw = omega arith in
+    let LL = lows (row / 2) (column / 2) halfRow halfColumn in
+    let HL = others (row / 2) (bw + column / 2) (omega arith) (omega arith) in
+    let LH = others (bh + row / 2) (column / 2) (omega arith) (omega arith) in
+    let HH = others (bh + row / 2) (bw + column / 2) (omega arith) (omega arith) in
+    let lowRow = lt-ltb (row / 2) bh halfRow in
+    let lowColumn = lt-ltb (column / 2) bw halfColumn in
+    let highRow = le-ltb (bh + row / 2) bh (omega arith) in
+    let highColumn = le-ltb (bw + column / 2) bw (omega arith) in
+    rw (LL, HL, LH, HH, lowRow, lowColumn, highRow, highColumn, add-sub-cancel-left bh, add-sub-cancel-left bw, choice P)
+    (ap₂ P (place row) (place column))
+
+-- the sizes of the picture of a depth are not 0
+sizeAt-some : (size n : ℕ) → 1 ≤ size → 1 ≤ sizeAt size n
+unfolding sizeAt
+sizeAt-some size zero some = some
+sizeAt-some size (suc n) some = omega (arith, sizeAt-some size n some)
+
+-- and from depth 1 on they are even
+sizeAt-even : (size n : ℕ) → 1 ≤ size → EvenLength (sizeAt size (suc n))
+unfolding sizeAt
+sizeAt-even size n some = record { even = omega arith; some = omega (arith, sizeAt-some size n some) }
+
+-- What the rest of the analysis goes on with after the passes of level n + 1.
+abbrev lowAfter : Filter → ℕ → ℕ → ℕ → Picture → Picture
+lowAfter f h w n P = lowBand (levelAnalysis f h w n P)
+
+module _ (f : Filter) (h w : ℕ) (tall : 1 ≤ h) (wide : 1 ≤ w) where
+  -- the passes of level n + 1 are undone
+  level-undo : (n : ℕ) → Undo (sizeAt h (suc n)) (sizeAt w (suc n)) (analysisPasses f) (synthesisPasses f)
+  level-undo n = undo-level (sizeAt h (suc n)) (sizeAt w (suc n)) (sizeAt-even h n tall) (sizeAt-even w n wide) f
+
+  -- Coefficients that agree with the analysis of a picture of depth n + 1.
+  module _ (n : ℕ) (P coefficients : Picture) (same : Agree (sizeAt h (suc n)) (sizeAt w (suc n)) coefficients (analysis f h w (suc n) P)) where
+    -- they agree with the analysis of its LL
+    low-agrees : Agree (sizeAt h n) (sizeAt w n) coefficients (analysis f h w n (lowAfter f h w n P))
+    unfolding sizeAt analysis
+    low-agrees row column r c =
+        same row column (omega arith) (omega arith)
+        ∙ separate-low (sizeAt h n) (sizeAt w n) (analysis f h w n (lowAfter f h w n P)) (levelAnalysis f h w n P) row column r c
+
+    -- Synthesis gives LL back.
+    module _ (lows : Agree (sizeAt h n) (sizeAt w n) (synthesis f h w coefficients n) (lowAfter f h w n P)) where
+      -- interleaving gives the picture after the passes of the level's analysis
+      level-agrees :
+          Agree (sizeAt h (suc n)) (sizeAt w (suc n))
+          (interleave (sizeAt h n) (sizeAt w n) (synthesis f h w coefficients n) coefficients) (levelAnalysis f h w n P)
+      unfolding sizeAt analysis
+      level-agrees =
+          interleave-back (sizeAt h n) (sizeAt w n) (synthesis f h w coefficients n)
+          (analysis f h w n (lowAfter f h w n P)) coefficients (levelAnalysis f h w n P) lows same
+
+      -- the level's synthesis gives the picture back
+      level-back : Agree (sizeAt h (suc n)) (sizeAt w (suc n)) (synthesis f h w coefficients (suc n)) P
+      unfolding synthesis levelAnalysis
+      level-back row column r c =
+          runAll-same (sizeAt h (suc n)) (sizeAt w (suc n)) (sizeAt-even h n tall) (sizeAt-even w n wide)
+          (synthesisPasses f) _ _ level-agrees row column r c
+          ∙ ap (λ (Q : Picture). Q row column) (level-undo n .back P)
+
+      -- and its numbers fit
+      level-fits :
+          AllFit (sizeAt h (suc n)) (sizeAt w (suc n)) P
+          → allNewFit (sizeAt h (suc n)) (sizeAt w (suc n)) (analysisPasses f) P ≡ true → levelFits f h w coefficients n ≡ true
+      unfolding levelFits levelAnalysis
+      level-fits fit new =
+          allNewFit-same (sizeAt h (suc n)) (sizeAt w (suc n)) (sizeAt-even h n tall) (sizeAt-even w n wide)
+          (synthesisPasses f) _ _ (λ row column r c. sym (level-agrees row column r c)) (level-undo n .fits P fit new)
+
+  -- synthesis of a picture's analysis gives the picture back
+  pub synthesis-back :
+      (n : ℕ) (P coefficients : Picture) → Agree (sizeAt h n) (sizeAt w n) coefficients (analysis f h w n P)
+      → Agree (sizeAt h n) (sizeAt w n) (synthesis f h w coefficients n) P
+  unfolding analysis synthesis
+  synthesis-back zero P coefficients same = same
+  synthesis-back (suc n) P coefficients same =
+      level-back n P coefficients same (synthesis-back n (lowAfter f h w n P) coefficients (low-agrees n P coefficients same))
+
+  -- where a picture and the numbers of a level's analysis fit, what the analysis goes on with fits
+  low-fits :
+      (n : ℕ) (P : Picture) → AllFit (sizeAt h (suc n)) (sizeAt w (suc n)) P
+      → allNewFit (sizeAt h (suc n)) (sizeAt w (suc n)) (analysisPasses f) P ≡ true → AllFit (sizeAt h n) (sizeAt w n) (lowAfter f h w n P)
+  unfolding lowBand levelAnalysis sizeAt
+  low-fits n P fit new row column r c =
+      runAll-fits (sizeAt h (suc n)) (sizeAt w (suc n)) (analysisPasses f) P fit new (2 * row) (2 * column) (omega arith) (omega arith)
+
+  -- where a picture and the numbers of its analysis fit, no level of synthesis is bad
+  pub synthesis-fits :
+      (n : ℕ) (P coefficients : Picture) → Agree (sizeAt h n) (sizeAt w n) coefficients (analysis f h w n P)
+      → AllFit (sizeAt h n) (sizeAt w n) P → analysisFits f h w n P ≡ true → firstBadLevel f h w coefficients n ≡ 0
+  unfolding analysisFits firstBadLevel
+  synthesis-fits zero P coefficients same fit new = refl
+  synthesis-fits (suc n) P coefficients same fit new =
+      let level = and-left _ _ new in
+      let rest = and-right (allNewFit (sizeAt h (suc n)) (sizeAt w (suc n)) (analysisPasses f) P) _ new in
+      let low = low-agrees n P coefficients same in
+      let good = synthesis-fits n (lowAfter f h w n P) coefficients low (low-fits n P fit level) rest in
+      rw (good, level-fits n P coefficients same (synthesis-back n (lowAfter f h w n P) coefficients low) fit level)

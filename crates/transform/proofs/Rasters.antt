@@ -1,0 +1,43 @@
+-- The laws of planes and pictures: a picture read row by row and back.
+-- Assumes nothing.
+use mathlib.Core.Path.{_≡_, sym, ap₂, _∙_}
+use mathlib.Core.List.{List}
+use Prim.Native.Nat.{ℕ, _+_, _*_, _/_, _%_, _≤_, _<_}
+use native.Mathlib.Nat.{mod-lt, div-add-mod', div-lt-iff-lt-mul}
+use native.Mathlib.Omega.{arith}
+use lib.Arith.{digits-lt, digits-div, digits-mod}
+use lib.IntN.{ℤ, pos}
+use lib.ListN.{length}
+use lib.Seq.{ext-getD}
+use Rattle.base.proofs.Fills.{length-tabulate, getD-tabulate}
+use Rattle.transform.specs.Synthesis.{Picture}
+use Rattle.transform.specs.Planes.{pictureOf, raster}
+use Rattle.transform.proofs.Passes.{Agree}
+
+module _ (h w : ℕ) where
+  -- a plane of h rows of w numbers
+  pub length-raster : (P : Picture) → length (raster h w P) ≡ h * w
+  unfolding raster
+  length-raster P = length-tabulate (h * w) (λ i. P (i / w) (i % w))
+
+  -- the picture of a picture's plane
+  pub picture-raster : (P : Picture) → Agree h w (pictureOf w (raster h w P)) P
+  unfolding pictureOf raster
+  picture-raster P row column r c =
+      getD-tabulate (h * w) (λ i. P (i / w) (i % w)) (row * w + column) (pos 0) (digits-lt r c)
+      ∙ ap₂ P (digits-div row c) (digits-mod row c)
+
+  -- a plane with the numbers of a picture is the picture's plane
+  pub raster-is : (P : Picture) (plane : List ℤ) → 1 ≤ w → length plane ≡ h * w → Agree h w P (pictureOf w plane) → raster h w P ≡ plane
+  unfolding raster pictureOf
+  raster-is P plane some size agree =
+      ext-getD (pos 0) (raster h w P) plane (length-raster P ∙ sym size)
+      (λ i inside.
+      let below : i < h * w = omega (arith, length-raster P) in
+      let here = agree (i / w) (i % w) (div-lt-iff-lt-mul some .1 below) (mod-lt i some) in
+      getD-tabulate (h * w) (λ k. P (k / w) (k % w)) i (pos 0) below ∙ (rw div-add-mod' at here))
+
+  -- pictures that agree have one plane
+  pub raster-same : (P Q : Picture) → 1 ≤ w → Agree h w P Q → raster h w P ≡ raster h w Q
+  raster-same P Q some agree =
+      raster-is P (raster h w Q) some (length-raster Q) (λ row column r c. agree row column r c ∙ sym (picture-raster Q row column r c))
