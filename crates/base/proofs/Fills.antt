@@ -11,7 +11,7 @@ use native.Mathlib.Decide.{decLt}
 use native.Mathlib.Omega.{arith}
 use lib.IntN.{ℤ, pos}
 use lib.ListN.{length, getD, set, replicate, length-set, length-replicate, getD-replicate}
-use lib.Seq.{ext-getD, getD-set-same, getD-set-other}
+use lib.Seq.{ext-getD, getD-set-same, getD-set-other, set-comm}
 use Rattle.base.specs.Fill.{fill, tabulate, zerosLike}
 
 module _ {ℓ} {A : Type ℓ} (l : List A) (d : ℕ) (f : ℕ → A) where
@@ -49,6 +49,18 @@ module _ {ℓ} {A : Type ℓ} (l : List A) (d : ℕ) (f : ℕ → A) where
   getD-fill-out zero i e apart = refl
   getD-fill-out (suc n) i e apart = getD-set-other (fill l d n f) (d + n) i (f n) e (apart n (omega arith)) ∙ getD-fill-out n i e (λ k h. apart k (omega arith))
 
+  -- a store elsewhere may be made before
+  pub set-fill-out : (n i : ℕ) (v : A) → ((k : ℕ) → k < n → i ≢ d + k) → set (fill l d n f) i v ≡ fill (set l i v) d n f
+  unfolding fill
+  set-fill-out zero i v apart = refl
+  set-fill-out (suc n) i v apart =
+      set-comm (fill l d n f) (d + n) i (f n) v (λ e. apart n (omega arith) (sym e))
+      ∙ ap (λ (m : List A). set m (d + n) (f n)) (set-fill-out n i v (λ k h. apart k (omega arith)))
+
+-- a place of a list that is filled from its start on
+pub getD-fill-start {ℓ} : {A : Type ℓ} (l : List A) (f : ℕ → A) (n i : ℕ) (e : A) → i < n → i < length l → getD (fill l 0 n f) i e ≡ f i
+getD-fill-start l f n i e h inside = rw (zero-add i) at (getD-fill-in l 0 f n i e h (omega arith))
+
 -- a plane filled with zeros from its start to its end
 pub fill-zeros : (l : List ℤ) → fill l 0 (length l) (λ k. pos 0) ≡ zerosLike l
 unfolding zerosLike
@@ -57,9 +69,7 @@ fill-zeros l =
     (length-fill l 0 (λ k. pos 0) (length l) ∙ sym (length-replicate (length l) (pos 0)))
     (λ i h.
     let inside : i < length l = subst (λ (n : ℕ). i < n) (length-fill l 0 (λ k. pos 0) (length l)) h in
-    let stored = getD-fill-in l 0 (λ k. pos 0) (length l) i (pos 0) inside (omega arith) in
-    subst (λ (k : ℕ). getD (fill l 0 (length l) (λ k. pos 0)) k (pos 0) ≡ pos 0) (zero-add i) stored
-    ∙ sym (getD-replicate (length l) i (pos 0) (pos 0) inside))
+    getD-fill-start l (λ k. pos 0) (length l) i (pos 0) inside inside ∙ sym (getD-replicate (length l) i (pos 0) (pos 0) inside))
 
 -- two lists of one length that agree at every place, whatever stands past the end
 module _ {ℓ} {A : Type ℓ} where
@@ -85,6 +95,4 @@ module _ {ℓ} {A : Type ℓ} where
   pub fill-tabulate : (l : List A) (f : ℕ → A) → fill l 0 (length l) f ≡ tabulate (length l) f
   fill-tabulate l f =
       same-entries (length l) (fill l 0 (length l) f) (tabulate (length l) f) (length-fill l 0 f (length l)) (length-tabulate (length l) f)
-      (λ i e h.
-      subst (λ (k : ℕ). getD (fill l 0 (length l) f) k e ≡ f i) (zero-add i) (getD-fill-in l 0 f (length l) i e h (omega arith))
-      ∙ sym (getD-tabulate (length l) f i e h))
+      (λ i e h. getD-fill-start l f (length l) i e h h ∙ sym (getD-tabulate (length l) f i e h))

@@ -3,3 +3,5 @@ pub mod Ranges
 pub mod Walks
 pub mod Fills
 pub mod Everys
+pub mod Magnitudes
+pub mod Grids

@@ -1,6 +1,9 @@
 // Planes of signed 32-bit numbers.
 ghost use mathlib.Core.Path.{_≡_};
-ghost use Rattle.base.specs.Fill.{zerosLike};
+ghost use Prim.Native.Nat.{_+_, _≤_};
+ghost use lib.IntN.{pos};
+ghost use lib.ListN.{length, getD};
+ghost use Rattle.base.specs.Fill.{fill, zerosLike};
 
 // Puts zeros into the whole plane.
 pub fn zero(plane: &mut [i32])
@@ -10,5 +13,17 @@ pub fn zero(plane: &mut [i32])
     while i < plane.len() {
         plane[i] = 0;
         i += 1;
+    }
+}
+
+// Copies n entries from a place of one plane to a place of another.
+pub fn copy(plane: &mut [i32], place: usize, source: &[i32], from: usize, n: usize)
+    requires { ⌜ (place + n ≤ length (now plane)) × (from + n ≤ length (now source)) ⌝ }
+    ensures { λ _. ⌜ now (plane .exit) ≡ fill (now (plane .entry)) place n (λ x. getD (now (source .entry)) (from + x) (pos 0)) ⌝ }
+{
+    let mut x = 0;
+    while x < n {
+        plane[place + x] = source[from + x];
+        x += 1;
     }
 }

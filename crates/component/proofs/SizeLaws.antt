@@ -3,9 +3,9 @@
 use mathlib.Core.Path.{_≡_, refl, sym, ap, _∙_, subst}
 use mathlib.Core.Logic.{_≢_}
 use Prim.Native.Nat.{ℕ, zero, suc, _+_, _-_, _*_, _/_, _%_, _^_, _≤_, _<_}
-use native.Mathlib.Nat.{mul-assoc, mul-div-cancel, pow-suc, le-div-iff-mul-le, lt-div-mul-add}
+use native.Mathlib.Nat.{mul-assoc, mul-le-mul-left, mul-div-cancel, pow-suc, le-div-iff-mul-le, lt-div-mul-add}
 use native.Mathlib.Omega.{arith}
-use lib.Pow.{pow-pos, pow-add}
+use lib.Pow.{pow-pos, pow-mono, pow-add}
 use Rattle.component.specs.Sizes.{paddedSize, bandSize, sizeAt}
 
 -- what holds at each depth that is allowed
@@ -76,3 +76,16 @@ band-sizeAt depth size n h =
     ap (λ (d : ℕ). q * 2 ^ d) whole ∙ ap (λ (x : ℕ). q * x) (pow-add 2 n (depth - n)) ∙ sym (mul-assoc q (2 ^ n) (2 ^ (depth - n))) in
     ap (λ (x : ℕ). x / 2 ^ (depth - n)) split ∙ mul-div-cancel (q * 2 ^ n) (pow-pos (depth - n))
     ∙ sym (sizeAt-power _ n ∙ ap (λ (x : ℕ). x * 2 ^ n) (low-size depth size))
+
+-- the sizes of pictures grow with the depth, and the last one is what is left of the doublings
+pub sizeAt-mono : (size m n : ℕ) → m ≤ n → sizeAt size m ≤ sizeAt size n
+sizeAt-mono size m n h = rw (sizeAt-power size m, sizeAt-power size n) (mul-le-mul-left size (pow-mono {i = m} {j = n} h))
+
+pub sizeAt-least : (size n : ℕ) → 1 ≤ size → 1 ≤ sizeAt size n
+unfolding sizeAt
+sizeAt-least size n some = omega (arith, sizeAt-mono size 0 n (omega arith))
+
+pub sizeAt-rest : (size m n : ℕ) → m ≤ n → sizeAt size m * 2 ^ (n - m) ≡ sizeAt size n
+sizeAt-rest size m n h =
+    let whole : m + (n - m) ≡ n = omega arith in
+    rw (sizeAt-power size m, sizeAt-power size n, mul-assoc size (2 ^ m) (2 ^ (n - m)), ← pow-add 2 m (n - m), whole)

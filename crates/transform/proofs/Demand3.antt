@@ -12,7 +12,7 @@ use lib.ListN.{length}
 use Rattle.base.specs.Fill.{zerosLike}
 use Rattle.component.specs.Checks.{sizesInRange, depthInRange, waveletInRange}
 use Rattle.component.specs.declared.parameters.Parameters.{Parameters}
-use Rattle.transform.specs.Planes.{pictureOf, raster}
+use Rattle.lifting.specs.Planes.{pictureOf, raster}
 use Rattle.transform.specs.Job.{paddedWidth, paddedHeight, pictureFrom, accepted, transformed, synthesised, analysed, analysisStaysIn32}
 use Rattle.transform.proofs.Jobs.{plane-back, samples-back, no-bad-level, no-refusal}
 

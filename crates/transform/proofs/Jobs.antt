@@ -19,13 +19,14 @@ use Rattle.component.specs.declared.parameters.Parameters.{Parameters}
 use Rattle.component.specs.declared.parameters.Job.the-variants.{Synthesise}
 use Rattle.component.proofs.SizeLaws.{padded-least, low-some, sizeAt-padded}
 use Rattle.component.proofs.CheckLaws.{width-least, height-least, refused-none}
-use Rattle.transform.specs.Filters.{filterOf}
-use Rattle.transform.specs.Synthesis.{Picture}
+use Rattle.lifting.specs.Filters.{filterOf}
+use Rattle.lifting.specs.Passes.{Picture}
 use Rattle.transform.specs.Analysis.{analysis}
-use Rattle.transform.specs.Planes.{pictureOf, raster}
+use Rattle.lifting.specs.Planes.{pictureOf, raster}
 use Rattle.transform.specs.Job.{paddedWidth, paddedHeight, lowWidth, lowHeight, pictureFrom, badLevel, lengthsOf, analysed, analysisStaysIn32}
-use Rattle.transform.proofs.Passes.{Agree, AllFit}
-use Rattle.transform.proofs.Levels.{synthesis-back, synthesis-fits}
+use Rattle.lifting.specs.Layout.{Agree}
+use Rattle.lifting.proofs.PassLaws.{AllFit}
+use Rattle.transform.proofs.LevelLaws.{synthesis-back, synthesis-fits}
 use Rattle.transform.proofs.Rasters.{length-raster, picture-raster, raster-is, raster-same}
 
 -- The picture of a padded plane, and what its analysis makes of it.

@@ -1,7 +1,9 @@
 pub mod WholeCase
-pub mod Lifts
-pub mod Passes
-pub mod Levels
+pub mod Undone
+pub mod LevelLaws
 pub mod Rasters
 pub mod Jobs
 pub mod Demand3
+pub mod BandLaws
+pub mod LevelSteps
+pub mod GeometryLaws

@@ -10,9 +10,9 @@ use lib.IntN.{ℤ, pos}
 use lib.ListN.{length}
 use lib.Seq.{ext-getD}
 use Rattle.base.proofs.Fills.{length-tabulate, getD-tabulate}
-use Rattle.transform.specs.Synthesis.{Picture}
-use Rattle.transform.specs.Planes.{pictureOf, raster}
-use Rattle.transform.proofs.Passes.{Agree}
+use Rattle.lifting.specs.Passes.{Picture}
+use Rattle.lifting.specs.Planes.{pictureOf, raster}
+use Rattle.lifting.specs.Layout.{Agree}
 
 module _ (h w : ℕ) where
   -- a plane of h rows of w numbers

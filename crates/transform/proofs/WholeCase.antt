@@ -7,9 +7,10 @@ use lib.IntN.{ℤ, pos, negsuc}
 use lib.ListN.{getD}
 use Rattle.base.specs.Every.{allBelow}
 use Rattle.component.specs.Sizes.{sizeAt}
-use Rattle.transform.specs.Lifting.{changesEven, adds, clamp, readPlace, tapSum, rounding, update, changes, lift, exchangeType, exchange}
-use Rattle.transform.specs.Filters.{filter3, haarSteps, filterOf, filter0, filter1, filter2, filter4, filter5, filter6}
-use Rattle.transform.specs.Synthesis.{Picture, run, runAll, synthesisPasses, interleave, synthesis}
+use Rattle.lifting.specs.Lifting.{changesEven, adds, clamp, readPlace, tapSum, rounding, update, changes, lift, exchangeType, exchange}
+use Rattle.lifting.specs.Passes.{Picture, run, runAll}
+use Rattle.lifting.specs.Filters.{filter3, haarSteps, filterOf, filter0, filter1, filter2, filter4, filter5, filter6}
+use Rattle.transform.specs.Synthesis.{synthesisPasses, interleave, synthesis}
 use Rattle.transform.specs.Analysis.{analysis, undoSteps, analysisPasses, lowBand, separate, levelAnalysis}
 
 plane : List ℤ → Picture

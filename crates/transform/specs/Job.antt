@@ -12,12 +12,14 @@ use Rattle.base.specs.Range.{fits32}
 use Rattle.component.specs.Sizes.{paddedSize, bandSize}
 use Rattle.component.specs.Checks.{refusalOf}
 use Rattle.component.specs.declared.parameters.Parameters.{Parameters}
+use Rattle.component.specs.declared.parameters.Answer.{Answer}
 use Rattle.component.specs.declared.parameters.Lengths.{Lengths}
 use Rattle.component.specs.declared.parameters.Job.the-variants.{Synthesise}
-use Rattle.transform.specs.Filters.{Filter, filterOf}
-use Rattle.transform.specs.Synthesis.{Picture, synthesis, firstBadLevel}
+use Rattle.lifting.specs.Passes.{Picture}
+use Rattle.lifting.specs.Filters.{Filter, filterOf}
+use Rattle.transform.specs.Synthesis.{synthesis, firstBadLevel}
 use Rattle.transform.specs.Analysis.{analysis, analysisFits}
-use Rattle.transform.specs.Planes.{pictureOf, raster}
+use Rattle.lifting.specs.Planes.{pictureOf, raster}
 
 -- What a call of synthesise gives: its answer, and what work and samples hold after it. The coefficients are only read.
 pub record Synthesised : Type 0 where
@@ -25,6 +27,10 @@ pub record Synthesised : Type 0 where
   pub place : ℕ
   pub work : List ℤ
   pub samples : List ℤ
+
+-- What a call gave: its answer, and what stood in work and samples when it returned.
+unfoldable pub outcome : Answer → List ℤ → List ℤ → Synthesised
+outcome answer work samples = record { status = answer .status; place = answer .place; work = work; samples = samples }
 
 -- The padded sizes of a component, and the sizes of its LL.
 abbrev pub paddedWidth : Parameters → ℕ

@@ -11,7 +11,7 @@ use native.Mathlib.Omega.{arith}
 use lib.Dec.{eqb}
 use lib.IntN.{ℤ, pos, negsuc, _+ℤ_, _-ℤ_, _*ℤ_, sucℤ, suc-pred, -ℤ-one, +ℤ-negℤ-cancel, -ℤ-+ℤ-cancel}
 use borrow.Author.Tests.{ne-eqb}
-use Rattle.transform.specs.Lifting.{Line, Step, StepType, type1, type2, type3, type4, changesEven, adds, clamp, readPlace, tapSum, update, changes, lift, exchangeType, exchange}
+use Rattle.lifting.specs.Lifting.{Line, Step, StepType, type1, type2, type3, type4, changesEven, adds, clamp, readPlace, tapSum, update, changes, lift, exchangeType, exchange}
 
 -- The length of a line that is lifted: even, and not 0.
 pub record EvenLength (N : ℕ) : Type 0 where

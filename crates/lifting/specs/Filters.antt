@@ -4,7 +4,7 @@ use mathlib.Core.List.{List, [], _∷_}
 use mathlib.Core.Bool.{Bool, true, false}
 use lib.IntN.{ℤ, pos, negsuc}
 use lib.ListN.{getD}
-use Rattle.transform.specs.Lifting.{Step, StepType, type1, type2, type3, type4}
+use Rattle.lifting.specs.Lifting.{Step, StepType, type1, type2, type3, type4}
 
 -- A filter: its steps in order, and whether its shift is 1.
 pub record Filter : Type 0 where

@@ -11,11 +11,14 @@ use lib.Dec.{eqb}
 use borrow.Author.Tests.{lt-ltb, le-ltb, eq-eqb, ne-eqb}
 use Rattle.base.proofs.Everys.{and-left, and-right}
 use Rattle.component.specs.Sizes.{sizeAt}
-use Rattle.transform.specs.Filters.{Filter}
-use Rattle.transform.specs.Synthesis.{Picture, allNewFit, synthesisPasses, interleave, synthesis, levelFits, firstBadLevel}
+use Rattle.lifting.specs.Filters.{Filter}
+use Rattle.transform.specs.Synthesis.{synthesisPasses, interleave, synthesis, levelFits, firstBadLevel}
 use Rattle.transform.specs.Analysis.{analysisPasses, lowBand, separate, levelAnalysis, analysis, analysisFits}
-use Rattle.transform.proofs.Lifts.{EvenLength}
-use Rattle.transform.proofs.Passes.{Agree, AllFit, Undo, undo-level, runAll-fits, runAll-same, allNewFit-same}
+use Rattle.lifting.proofs.Lifts.{EvenLength}
+use Rattle.lifting.specs.Layout.{Agree}
+use Rattle.lifting.specs.Passes.{Picture, allNewFit}
+use Rattle.lifting.proofs.PassLaws.{AllFit, runAll-fits, runAll-same, allNewFit-same}
+use Rattle.transform.proofs.Undone.{Undo, undo-level}
 
 -- a number from its half and its parity
 place : (x : ℕ) → cond (eqb (x % 2) 0) (2 * (x / 2)) (2 * (x / 2) + 1) ≡ x

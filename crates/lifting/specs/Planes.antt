@@ -4,7 +4,7 @@ use mathlib.Core.List.{List}
 use lib.IntN.{ℤ, pos}
 use lib.ListN.{getD}
 use Rattle.base.specs.Fill.{tabulate}
-use Rattle.transform.specs.Synthesis.{Picture}
+use Rattle.lifting.specs.Passes.{Picture}
 
 -- "The plane has rows of padded width."
 unfoldable pub pictureOf : ℕ → List ℤ → Picture

@@ -1,0 +1,34 @@
+-- The table of steps as the code holds it, and the step that each row of it stands for. The rows are the code's own form; the filters that
+-- they are tied to stand in Filters.antt.
+use Prim.Native.Nat.{ℕ, _+_, _*_, _^_, _≤_, _<_}
+use mathlib.Core.Bool.{Bool, true, false, cond}
+use mathlib.Core.List.{List}
+use lib.IntN.{ℤ, pos, _-ℤ_, natAbs}
+use lib.ListN.{length, getD, take}
+use Rattle.lifting.specs.Lifting.{Step, StepType, type1, type2, type3, type4}
+use Rattle.lifting.specs.Filters.{filterOf}
+use Rattle.lifting.specs.declared.filters.LiftingStep.{LiftingStep}
+
+-- A step's type, from the places it changes and whether it adds.
+unfoldable pub typeOf : Bool → Bool → StepType
+typeOf true true = type1
+typeOf true false = type2
+typeOf false true = type3
+typeOf false false = type4
+
+-- The step of a row. `lead` is the first offset D, counted from −3 where even places change and from −4 where odd ones do.
+unfoldable pub stepOf : LiftingStep → Step
+stepOf r =
+    record {
+      type = typeOf (r .even) (r .adds);
+      first = pos (r .lead) -ℤ pos (cond (r .even) 3 4);
+      taps = take (r .count) (r .taps);
+      scale = r .scale
+    }
+
+-- The sizes that keep a step's sums within 64 bits and its reads within a line buffer.
+pub record Sane (r : LiftingStep) : Type 0 where
+  pub few-taps : r .count ≤ 8
+  pub near : r .lead + r .count ≤ 9
+  pub small-scale : r .scale ≤ 12
+  pub small-taps : (t : ℕ) → t < 8 → natAbs (getD (r .taps) t (pos 0)) ≤ 2 ^ 13

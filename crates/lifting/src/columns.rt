@@ -1,0 +1,109 @@
+// Document 01, "Lifting", on every column of a picture in a plane: the unit of work is a row, whose elements are lifted all at once.
+ghost use mathlib.Core.Path.{_≡_};
+ghost use mathlib.Core.Bool.{true};
+ghost use mathlib.Core.List.{map};
+ghost use Prim.Native.Nat.{ℕ, _+_, _*_, _≤_, _<_};
+ghost use lib.ListN.{length, getD};
+ghost use Rattle.base.specs.Every.{allBelow};
+ghost use Rattle.base.specs.Fill.{fill};
+ghost use Rattle.base.specs.Range.{fits32};
+ghost use Rattle.lifting.specs.Lifting.{lift};
+ghost use Rattle.lifting.specs.Filters.{filterOf};
+ghost use Rattle.lifting.specs.Passes.{columns, run, runAll, newFit, allNewFit};
+ghost use Rattle.lifting.specs.Planes.{pictureOf};
+ghost use Rattle.lifting.specs.Table.{stepOf, Sane};
+ghost use Rattle.lifting.specs.Layout.{Agree, Placed, targetRow, sourceRow};
+use crate::filters::{rounding_of, step_at, step_count, LiftingStep};
+use lines::sums::{lift_line, sum_taps};
+
+// Where the picture of a level stands in a plane: how far apart its rows are, and the size of its bands, which is half its own.
+pub struct Frame {
+    pub stride: usize,
+    pub band_rows: usize,
+    pub band_columns: usize,
+}
+
+// Runs the steps of a filter on every column of the picture. False where a new number is outside 32 bits; then the plane's numbers are of
+// no use.
+pub fn filter_columns(work: &mut [i32], sums: &mut [i64; 4096], frame: Frame, wavelet: usize) -> bool
+    requires { ⌜ Placed frame (now work) × (wavelet ≤ 6) ⌝ }
+    ensures told { λ r. ⌜ r ≡ allNewFit (2 * frame .«band_rows») (2 * frame .«band_columns») (map columns (filterOf wavelet .steps)) (pictureOf (frame .stride) (now (work .entry))) ⌝ }
+    ensures done { λ r. ⌜ (r ≡ true → Agree (2 * frame .«band_rows») (2 * frame .«band_columns») (pictureOf (frame .stride) (now (work .exit))) (runAll (2 * frame .«band_rows») (2 * frame .«band_columns») (map columns (filterOf wavelet .steps)) (pictureOf (frame .stride) (now (work .entry))))) ⌝ }
+{
+    let count = step_count(wavelet);
+    let mut k = 0;
+    while k < count {
+        let step = step_at(wavelet, k);
+        if !lift_columns(work, sums, frame, step) {
+            return false;
+        }
+        k += 1;
+    }
+    true
+}
+
+// Runs one step on every column of the picture.
+fn lift_columns(work: &mut [i32], sums: &mut [i64; 4096], frame: Frame, step: LiftingStep) -> bool
+    requires { ⌜ Placed frame (now work) × Sane step ⌝ }
+    ensures told { λ r. ⌜ r ≡ newFit (2 * frame .«band_rows») (2 * frame .«band_columns») (columns (stepOf step)) (run (2 * frame .«band_rows») (2 * frame .«band_columns») (columns (stepOf step)) (pictureOf (frame .stride) (now (work .entry)))) ⌝ }
+    ensures done { λ r. ⌜ (r ≡ true → Agree (2 * frame .«band_rows») (2 * frame .«band_columns») (pictureOf (frame .stride) (now (work .exit))) (run (2 * frame .«band_rows») (2 * frame .«band_columns») (columns (stepOf step)) (pictureOf (frame .stride) (now (work .entry))))) ⌝ }
+{
+    let pairs = frame.band_rows;
+    let mut k = 0;
+    while k < pairs {
+        if !lift_row(work, sums, frame, k, step) {
+            return false;
+        }
+        k += 1;
+    }
+    true
+}
+
+// Runs one step on one element of every column: the row of pair k that the step changes.
+fn lift_row(work: &mut [i32], sums: &mut [i64; 4096], frame: Frame, k: usize, step: LiftingStep) -> bool
+    requires { ⌜ Placed frame (now work) × Sane step × (k < frame .«band_rows») ⌝ }
+    ensures told { λ r. ⌜ r ≡ allBelow (2 * frame .«band_columns») (λ c. fits32 (lift (stepOf step) (2 * frame .«band_rows») (λ r. pictureOf (frame .stride) (now (work .entry)) r c) (targetRow (step .even) k))) ⌝ }
+    ensures done { λ r. ⌜ (r ≡ true → now (work .exit) ≡ fill (now (work .entry)) (targetRow (step .even) k * frame .stride) (2 * frame .«band_columns») (λ c. lift (stepOf step) (2 * frame .«band_rows») (λ r. pictureOf (frame .stride) (now (work .entry)) r c) (targetRow (step .even) k))) ⌝ }
+{
+    let width = 2 * frame.band_columns;
+    let places = row_places(frame, step.even, k + step.lead);
+    let taps = step.taps;
+    let round = rounding_of(step.scale);
+    sum_taps(sums, work, width, &taps, &places, step.count, round);
+    let target = target_row(step.even, k) * frame.stride;
+    lift_line(work, target, sums, width, step.scale, step.adds)
+}
+
+// The row of pair k that a step changes.
+fn target_row(even: bool, k: usize) -> usize
+    requires { ⌜ k < 2048 ⌝ }
+    ensures { λ r. ⌜ r ≡ targetRow even k ⌝ }
+{
+    if even { 2 * k } else { 2 * k + 1 }
+}
+
+// The row that a tap reads.
+fn source_row(even: bool, pairs: usize, s: usize) -> usize
+    requires { ⌜ (1 ≤ pairs) × (pairs ≤ 2048) ⌝ }
+    ensures { λ r. ⌜ r ≡ sourceRow even pairs s ⌝ }
+{
+    let forward = if s < 4 { 0 } else { s - 4 };
+    let held = if forward < pairs { forward } else { pairs - 1 };
+    if even { 2 * held + 1 } else { 2 * held }
+}
+
+// Where the rows that eight taps read start in the plane, the first tap's being s.
+fn row_places(frame: Frame, even: bool, s: usize) -> [usize; 8]
+    requires { ⌜ (1 ≤ frame .«band_rows») × (frame .«band_rows» ≤ 2048) × (frame .stride ≤ 65536) × (s ≤ 4096) ⌝ }
+    ensures { λ r. ⌜ ((t : ℕ) → t < 8 → getD r t 0 ≡ sourceRow even (frame .«band_rows») (s + t) * frame .stride) ⌝ }
+{
+    let pairs = frame.band_rows;
+    let stride = frame.stride;
+    let mut places = [0usize; 8];
+    let mut t = 0;
+    while t < 8 {
+        places[t] = source_row(even, pairs, s + t) * stride;
+        t += 1;
+    }
+    places
+}

@@ -1,0 +1,4 @@
+// Document 01, "Lifting": the table of filters, and the steps of a filter on every column and on every row of a picture in a plane.
+pub mod columns;
+pub mod filters;
+pub mod rows;

@@ -1,0 +1,152 @@
+// Document 01, "Lifting", on every row of a picture in a plane: each row is taken apart into its even and its odd places, in line buffers,
+// lifted there, and woven back.
+ghost use mathlib.Core.Path.{_≡_};
+ghost use mathlib.Core.Bool.{true};
+ghost use mathlib.Core.List.{map};
+ghost use Prim.Native.Nat.{ℕ, _+_, _*_, _≤_, _<_};
+ghost use lib.IntN.{pos, _+ℤ_, _*ℤ_};
+ghost use lib.ListN.{length, getD};
+ghost use Rattle.base.specs.Every.{allBelow};
+ghost use Rattle.base.specs.Fill.{fill};
+ghost use Rattle.base.specs.Range.{fits32};
+ghost use Rattle.lines.specs.Buffers.{heldEntry, woven, shifted};
+ghost use Rattle.lines.specs.Sums.{sumBelow, changed};
+ghost use Rattle.lifting.specs.Lifting.{lift, rounding};
+ghost use Rattle.lifting.specs.Filters.{filterOf};
+ghost use Rattle.lifting.specs.Passes.{rows, run, runAll, newFit, allNewFit};
+ghost use Rattle.lifting.specs.Planes.{pictureOf};
+ghost use Rattle.lifting.specs.Table.{stepOf, Sane};
+ghost use Rattle.lifting.specs.Layout.{Agree, Placed, halfPlace, halvesOf};
+use crate::columns::Frame;
+use crate::filters::{has_shift, rounding_of, step_at, step_count, LiftingStep};
+use base::plane;
+use lines::buffers::{extend, weave};
+use lines::sums::{lift_line, sum_taps};
+
+// Runs the steps of a filter, and its shift, on every row of a picture whose rows stand as two halves; they are woven in the end. False where
+// a new number of a step is outside 32 bits; then the plane's numbers are of no use.
+pub fn filter_rows(
+    work: &mut [i32],
+    low: &mut [i32; 2056],
+    high: &mut [i32; 2056],
+    sums: &mut [i64; 4096],
+    frame: Frame,
+    wavelet: usize,
+) -> bool
+    requires { ⌜ Placed frame (now work) × (wavelet ≤ 6) ⌝ }
+    ensures told { λ r. ⌜ r ≡ allNewFit (2 * frame .«band_rows») (2 * frame .«band_columns») (map rows (filterOf wavelet .steps)) (halvesOf (frame .«band_columns») (frame .stride) (now (work .entry))) ⌝ }
+    ensures done { λ r. ⌜ (r ≡ true → Agree (2 * frame .«band_rows») (2 * frame .«band_columns») (pictureOf (frame .stride) (now (work .exit))) (λ row x. shifted (filterOf wavelet .shift) (runAll (2 * frame .«band_rows») (2 * frame .«band_columns») (map rows (filterOf wavelet .steps)) (halvesOf (frame .«band_columns») (frame .stride) (now (work .entry))) row x))) ⌝ }
+{
+    let half = frame.band_columns;
+    let stride = frame.stride;
+    let height = 2 * frame.band_rows;
+    let mut row = 0;
+    while row < height {
+        if !filter_row(work, row * stride, low, high, sums, half, wavelet) {
+            return false;
+        }
+        row += 1;
+    }
+    true
+}
+
+// The same for the row that starts at a place of the plane.
+fn filter_row(
+    work: &mut [i32],
+    place: usize,
+    low: &mut [i32; 2056],
+    high: &mut [i32; 2056],
+    sums: &mut [i64; 4096],
+    half: usize,
+    wavelet: usize,
+) -> bool
+    requires { ⌜ (1 ≤ half) × (half ≤ 2048) × (place + 2 * half ≤ length (now work)) × (wavelet ≤ 6) ⌝ }
+    ensures told { λ r. ⌜ r ≡ allNewFit 1 (2 * half) (map rows (filterOf wavelet .steps)) (λ row x. getD (now (work .entry)) (place + halfPlace half x) (pos 0)) ⌝ }
+    ensures done { λ r. ⌜ (r ≡ true → now (work .exit) ≡ fill (now (work .entry)) place (2 * half) (λ x. shifted (filterOf wavelet .shift) (runAll 1 (2 * half) (map rows (filterOf wavelet .steps)) (λ row k. getD (now (work .entry)) (place + halfPlace half k) (pos 0)) 0 x))) ⌝ }
+{
+    plane::copy(low, 4, work, place, half);
+    plane::copy(high, 4, work, place + half, half);
+    if !filter_halves(low, high, sums, half, wavelet) {
+        return false;
+    }
+    weave(work, place, low, high, half, has_shift(wavelet));
+    true
+}
+
+// Runs the steps of a filter on a row whose even places stand in one line buffer and whose odd places in another.
+fn filter_halves(
+    low: &mut [i32; 2056],
+    high: &mut [i32; 2056],
+    sums: &mut [i64; 4096],
+    half: usize,
+    wavelet: usize,
+) -> bool
+    requires { ⌜ (1 ≤ half) × (half ≤ 2048) × (wavelet ≤ 6) ⌝ }
+    ensures told { λ r. ⌜ r ≡ allNewFit 1 (2 * half) (map rows (filterOf wavelet .steps)) (λ row. woven (now (low .entry)) (now (high .entry))) ⌝ }
+    ensures done { λ r. ⌜ (r ≡ true → (x : ℕ) → x < 2 * half → woven (now (low .exit)) (now (high .exit)) x ≡ runAll 1 (2 * half) (map rows (filterOf wavelet .steps)) (λ row. woven (now (low .entry)) (now (high .entry))) 0 x) ⌝ }
+{
+    let count = step_count(wavelet);
+    let mut k = 0;
+    while k < count {
+        let step = step_at(wavelet, k);
+        if !lift_halves(low, high, sums, half, step) {
+            return false;
+        }
+        k += 1;
+    }
+    true
+}
+
+// Runs one step on such a row.
+fn lift_halves(
+    low: &mut [i32; 2056],
+    high: &mut [i32; 2056],
+    sums: &mut [i64; 4096],
+    half: usize,
+    step: LiftingStep,
+) -> bool
+    requires { ⌜ (1 ≤ half) × (half ≤ 2048) × Sane step ⌝ }
+    ensures told { λ r. ⌜ r ≡ newFit 1 (2 * half) (rows (stepOf step)) (run 1 (2 * half) (rows (stepOf step)) (λ row. woven (now (low .entry)) (now (high .entry)))) ⌝ }
+    ensures done { λ r. ⌜ (r ≡ true → (x : ℕ) → x < 2 * half → woven (now (low .exit)) (now (high .exit)) x ≡ lift (stepOf step) (2 * half) (woven (now (low .entry)) (now (high .entry))) x) ⌝ }
+{
+    if step.even {
+        lift_half(low, high, sums, half, step)
+    } else {
+        lift_half(high, low, sums, half, step)
+    }
+}
+
+// Lifts one half of a row by the other, whose ends are repeated first.
+fn lift_half(
+    target: &mut [i32; 2056],
+    source: &mut [i32; 2056],
+    sums: &mut [i64; 4096],
+    half: usize,
+    step: LiftingStep,
+) -> bool
+    requires { ⌜ (1 ≤ half) × (half ≤ 2048) × Sane step ⌝ }
+    ensures told { λ r. ⌜ r ≡ allBelow half (λ k. fits32 (changed (step .adds) (step .scale) (getD (now (target .entry)) (4 + k) (pos 0)) (rounding (step .scale) +ℤ sumBelow (λ t. getD (step .taps) t (pos 0) *ℤ getD (now (source .entry)) (heldEntry half (step .lead + t + k)) (pos 0)) (step .count)))) ⌝ }
+    ensures done { λ r. ⌜ (r ≡ true → now (target .exit) ≡ fill (now (target .entry)) 4 half (λ k. changed (step .adds) (step .scale) (getD (now (target .entry)) (4 + k) (pos 0)) (rounding (step .scale) +ℤ sumBelow (λ t. getD (step .taps) t (pos 0) *ℤ getD (now (source .entry)) (heldEntry half (step .lead + t + k)) (pos 0)) (step .count)))) ⌝ }
+    ensures kept { λ _. ⌜ ((k : ℕ) → k < half → getD (now (source .exit)) (4 + k) (pos 0) ≡ getD (now (source .entry)) (4 + k) (pos 0)) ⌝ }
+{
+    extend(source, half);
+    let places = line_places(step.lead);
+    let taps = step.taps;
+    let round = rounding_of(step.scale);
+    sum_taps(sums, source, half, &taps, &places, step.count, round);
+    lift_line(target, 4, sums, half, step.scale, step.adds)
+}
+
+// Where eight taps start in a line buffer, the first one at the lead.
+fn line_places(lead: usize) -> [usize; 8]
+    requires { ⌜ lead ≤ 8 ⌝ }
+    ensures { λ r. ⌜ ((t : ℕ) → t < 8 → getD r t 0 ≡ lead + t) ⌝ }
+{
+    let mut places = [0usize; 8];
+    let mut t = 0;
+    while t < 8 {
+        places[t] = lead + t;
+        t += 1;
+    }
+    places
+}

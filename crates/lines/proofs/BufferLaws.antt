@@ -1,0 +1,91 @@
+-- Laws of line buffers: the ends of a half repeated, the entries of a woven row, and a number halved with the half rounded up.
+-- Assumes nothing.
+use mathlib.Core.Path.{_≡_, refl, ap, _∙_}
+use mathlib.Core.List.{List}
+use Prim.Native.Nat.{ℕ, zero, suc, _+_, _-_, _*_, _/_, _%_, _≤_, _<_, min}
+use native.Mathlib.Decide.{decLt}
+use native.Mathlib.Omega.{arith}
+use borrow.Author.Tests.{lt-ltb, le-ltb, eq-eqb, ne-eqb}
+use lib.IntN.{ℤ, pos, negsuc, _+ℤ_, _-ℤ_}
+use lib.ListN.{length, getD, set}
+use lib.Signed.{mag}
+use Rattle.base.specs.Fill.{fill}
+use Rattle.base.specs.Floor.{floorDiv}
+use Rattle.base.proofs.Fills.{fill-none, fill-more, length-fill, getD-fill-in, getD-fill-out, getD-fill-start, set-fill-out}
+use Rattle.lines.specs.Buffers.{heldEntry, woven}
+
+-- a difference of natural numbers that is not below 0
+pos-less : (a b : ℕ) → b ≤ a → pos a -ℤ pos b ≡ pos (a - b)
+pos-less a zero h = ap pos (omega arith)
+pos-less a (suc b) h = rw (le-ltb a (suc b) h)
+
+-- a number less its half rounded down is its half rounded up
+pub half-up : (v : ℤ) → v -ℤ floorDiv v 2 ≡ floorDiv (v +ℤ pos 1) 2
+half-up (pos n) = pos-less n (n / 2) (omega arith) ∙ ap pos (omega arith)
+half-up (negsuc zero) = refl
+half-up (negsuc (suc n)) =
+    rw (lt-ltb (suc (suc n / 2)) (suc (suc n)) (omega arith), lt-ltb 1 (suc (suc n)) (omega arith)) (ap negsuc (omega arith))
+
+-- a half is no larger than the number
+pub half-small : (v : ℤ) → mag (floorDiv (v +ℤ pos 1) 2) ≤ mag v
+half-small (pos n) = omega arith
+half-small (negsuc zero) = omega arith
+half-small (negsuc (suc n)) = rw (lt-ltb 1 (suc (suc n)) (omega arith)) (omega arith)
+
+-- a line with n entries repeated on either side of a half
+abbrev pub ends : List ℤ → ℕ → ℕ → ℤ → ℤ → List ℤ
+ends l b n first last = fill (fill l 0 n (λ k. first)) (b + 4) n (λ k. last)
+
+module _ (l : List ℤ) (b : ℕ) where
+  -- none repeated, and one more on either side
+  pub ends-none : (first last : ℤ) → ends l b 0 first last ≡ l
+  ends-none first last = fill-none _ (b + 4) _ ∙ fill-none l 0 _
+
+  pub ends-more : (n : ℕ) (first last : ℤ) → n < 4 → set (set (ends l b n first last) n first) (b + 4 + n) last ≡ ends l b (n + 1) first last
+  ends-more n first last h =
+      rw (set-fill-out (fill l 0 n (λ k. first)) (b + 4) (λ k. last) n n first (λ k below. omega arith), fill-more l 0 (λ k. first) n n (omega arith))
+      (fill-more (fill l 0 (n + 1) (λ k. first)) (b + 4) (λ k. last) n (b + 4 + n) refl)
+
+  -- four repeated are the entries held to the half
+  pub ends-held : (s : ℕ) → 1 ≤ b → b + 8 ≤ length l → s < b + 8 → getD (ends l b 4 (getD l 4 (pos 0)) (getD l (b + 3) (pos 0))) s (pos 0) ≡ getD l (heldEntry b s) (pos 0)
+  unfolding heldEntry
+  ends-held s some room h =
+      let first = getD l 4 (pos 0) in
+      let last = getD l (b + 3) (pos 0) in
+      let inner = fill l 0 4 (λ k. first) in
+      elim (decLt s (b + 4)) [
+        | yes before ↦
+            getD-fill-out inner (b + 4) (λ k. last) 4 s (pos 0) (λ k below. omega arith)
+            ∙ elim (decLt s 4) [
+              | yes left ↦
+                  let at : 4 ≡ 4 + min (s - 4) (b - 1) = omega arith in
+                  getD-fill-start l (λ k. first) 4 s (pos 0) left (omega arith) ∙ ap (λ (k : ℕ). getD l k (pos 0)) at
+              | no notLeft ↦
+                  let at : s ≡ 4 + min (s - 4) (b - 1) = omega arith in
+                  getD-fill-out l 0 (λ k. first) 4 s (pos 0) (λ k below. omega arith) ∙ ap (λ (k : ℕ). getD l k (pos 0)) at
+            ]
+        | no after ↦
+            let place : b + 4 + (s - (b + 4)) ≡ s = omega arith in
+            let at : b + 3 ≡ 4 + min (s - 4) (b - 1) = omega arith in
+            rw place at (getD-fill-in inner (b + 4) (λ k. last) 4 (s - (b + 4)) (pos 0) (omega arith) (rw (length-fill l 0 (λ k. first) 4) (omega arith)))
+            ∙ ap (λ (k : ℕ). getD l k (pos 0)) at
+      ]
+
+-- an even and an odd place of a woven row
+pub woven-even : (low high : List ℤ) (x : ℕ) → woven low high (2 * x) ≡ getD low (4 + x) (pos 0)
+unfolding woven
+woven-even low high x =
+    let half : 2 * x / 2 ≡ x = omega arith in
+    rw (eq-eqb (2 * x % 2) 0 (omega arith), half)
+
+pub woven-odd : (low high : List ℤ) (x : ℕ) → woven low high (2 * x + 1) ≡ getD high (4 + x) (pos 0)
+unfolding woven
+woven-odd low high x =
+    let half : (2 * x + 1) / 2 ≡ x = omega arith in
+    rw (ne-eqb ((2 * x + 1) % 2) 0 (omega arith), half)
+
+-- two more stores
+pub fill-two : (l : List ℤ) (d : ℕ) (f : ℕ → ℤ) (x i j : ℕ) → i ≡ d + 2 * x → j ≡ d + 2 * x + 1 → set (set (fill l d (2 * x) f) i (f (2 * x))) j (f (2 * x + 1)) ≡ fill l d (2 * (x + 1)) f
+fill-two l d f x i j at₁ at₂ =
+    let two : 2 * (x + 1) ≡ 2 * x + 1 + 1 = omega arith in
+    rw (fill-more l d f (2 * x) i at₁, two) (fill-more l d f (2 * x + 1) j (omega arith))

@@ -1,0 +1,25 @@
+-- Line buffers: one half of a row, low or high, from entry 4 on, with room for 4 entries on either side. And the sizes of numbers that keep
+-- sums within 64 bits. These are the code's own forms; no definition of the format rests on them.
+use Prim.Native.Nat.{ℕ, _+_, _-_, _*_, _/_, _%_, _^_, _≤_, _<_, min}
+use mathlib.Core.Bool.{Bool, cond}
+use mathlib.Core.List.{List}
+use lib.Dec.{eqb}
+use lib.IntN.{ℤ, pos, _+ℤ_, natAbs}
+use lib.ListN.{length, getD}
+use Rattle.base.specs.Floor.{floorDiv}
+
+-- The first w entries are at most m in size.
+abbrev pub Below : List ℤ → ℕ → ℕ → Type 0
+Below l w m = (x : ℕ) → x < w → natAbs (getD l x (pos 0)) ≤ m
+
+-- The place in a line buffer of entry s − 4 of a half of b entries, held to 0..b − 1.
+unfoldable pub heldEntry : ℕ → ℕ → ℕ
+heldEntry b s = 4 + min (s - 4) (b - 1)
+
+-- The row whose even places are the low half and whose odd places are the high half.
+unfoldable pub woven : List ℤ → List ℤ → ℕ → ℤ
+woven low high x = cond (eqb (x % 2) 0) (getD low (4 + x / 2) (pos 0)) (getD high (4 + x / 2) (pos 0))
+
+-- "if the shift is 1, replace each v by floor((v + 1)/2)"
+unfoldable pub shifted : Bool → ℤ → ℤ
+shifted shift v = cond shift (floorDiv (v +ℤ pos 1) 2) v

@@ -1,0 +1,193 @@
+-- A level as the code performs it, on rows that stand as two halves, is a level as document 01 performs it.
+-- Assumes nothing.
+use mathlib.Core.Path.{_≡_, refl, sym, ap, _∙_, subst}
+use mathlib.Core.Bool.{Bool, true, false, cond, _&&_}
+use mathlib.Core.List.{List, [], _∷_, _++_, map}
+use Prim.Native.Nat.{ℕ, zero, suc, _+_, _-_, _*_, _/_, _%_, _≤_, _<_}
+use native.Mathlib.Decide.{decLt, ℕ-discrete}
+use native.Mathlib.Omega.{arith}
+use lib.IntN.{ℤ, pos, negsuc, _+ℤ_, +ℤ-one}
+use lib.Signed.{mag}
+use lib.Dec.{ltb}
+use borrow.Author.Tests.{eq-eqb, ne-eqb, lt-ltb, le-ltb}
+use Rattle.base.specs.Floor.{floorDiv}
+use Rattle.base.specs.Range.{fits32}
+use Rattle.base.proofs.Everys.{and-left, and-right, and-true}
+use Rattle.base.proofs.Ranges.{fits32-below, below-fits32}
+use Rattle.lines.specs.Buffers.{shifted}
+use Rattle.lifting.specs.Lifting.{Step}
+use Rattle.lifting.specs.Filters.{Filter}
+use Rattle.lifting.specs.Passes.{Picture, Pass, columns, rows, halve, run, runAll, assigns, newFit, allNewFit}
+use Rattle.lifting.specs.Layout.{Agree, halfPlace}
+use Rattle.lifting.proofs.Lifts.{EvenLength}
+use Rattle.lifting.proofs.PassLaws.{AllFit, new-each, new-all, runAll-fits, runAll-append, allNewFit-append, runAll-same, allNewFit-same}
+use Rattle.transform.specs.Synthesis.{synthesisPasses}
+
+-- two tests of which each passes where the other does
+same-test : (a b : Bool) → (a ≡ true → b ≡ true) → (b ≡ true → a ≡ true) → a ≡ b
+same-test true true f g = refl
+same-test true false f g = sym (f refl)
+same-test false true f g = g refl
+same-test false false f g = refl
+
+-- The column whose place in a row of halves is c.
+unhalved : ℕ → ℕ → ℕ
+unhalved b c = cond (ltb c b) (2 * c) (2 * (c - b) + 1)
+
+-- twice a size that is not 0
+even-length : (b : ℕ) → 1 ≤ b → EvenLength (2 * b)
+even-length b some = record { even = omega arith; some = omega arith }
+
+module _ (b : ℕ) where
+  -- the places of columns lie in the row
+  half-inside : (x : ℕ) → x < 2 * b → halfPlace b x < 2 * b
+  unfolding halfPlace
+  half-inside x inside =
+      elim (ℕ-discrete (x % 2) 0) [
+        yes even ↦ rw (eq-eqb (x % 2) 0 even) (omega arith)
+      | no odd ↦ rw (ne-eqb (x % 2) 0 odd) (omega arith)
+      ]
+
+  -- and each place is that of one column
+  half-reached : (c : ℕ) → c < 2 * b → (unhalved b c < 2 * b) × (halfPlace b (unhalved b c) ≡ c)
+  unfolding halfPlace unhalved
+  half-reached c inside =
+      elim (decLt c b) [
+        yes low ↦
+          let even : 2 * c % 2 ≡ 0 = omega arith in
+          rw (lt-ltb c b low, eq-eqb (2 * c % 2) 0 even) (omega arith, omega arith)
+      | no high ↦
+          let odd : (2 * (c - b) + 1) % 2 ≡ 0 → ⊥ = λ e. omega arith in
+          rw (le-ltb c b (omega arith), ne-eqb ((2 * (c - b) + 1) % 2) 0 odd) (omega arith, omega arith)
+      ]
+
+  -- A picture whose rows stand as two halves.
+  abbrev halved : Picture → Picture
+  halved S row x = S row (halfPlace b x)
+
+  -- steps on columns go the same way there
+  columns-halved : (h w : ℕ) (steps : List Step) (S : Picture) → runAll h w (map columns steps) (halved S) ≡ halved (runAll h w (map columns steps) S)
+  unfolding runAll run
+  columns-halved h w [] S = refl
+  columns-halved h w (s ∷ ss) S = columns-halved h w ss (run h w (columns s) S)
+
+  -- and assign the same numbers
+  new-halved : (h : ℕ) (s : Step) (S : Picture) → newFit h (2 * b) (columns s) (halved S) ≡ newFit h (2 * b) (columns s) S
+  unfolding assigns
+  new-halved h s S =
+      same-test (newFit h (2 * b) (columns s) (halved S)) (newFit h (2 * b) (columns s) S)
+      (λ e. new-all h (2 * b) (columns s) S
+        (λ row c r i assigned.
+          let there = half-reached c i in
+          subst (λ (k : ℕ). fits32 (S row k) ≡ true) (there .1) (new-each h (2 * b) (columns s) (halved S) e row (unhalved b c) r (there .0) assigned)))
+      (λ e. new-all h (2 * b) (columns s) (halved S)
+        (λ row x r i assigned. new-each h (2 * b) (columns s) S e row (halfPlace b x) r (half-inside x i) assigned))
+
+  all-new-halved : (h : ℕ) (steps : List Step) (S : Picture) → allNewFit h (2 * b) (map columns steps) (halved S) ≡ allNewFit h (2 * b) (map columns steps) S
+  unfolding allNewFit run
+  all-new-halved h [] S = refl
+  all-new-halved h (s ∷ ss) S = rw (new-halved h s (run h (2 * b) (columns s) S), all-new-halved h ss (run h (2 * b) (columns s) S))
+
+-- half of a number that fits, rounded up, fits
+half-fits : (v : ℤ) → fits32 v ≡ true → fits32 (floorDiv (v +ℤ pos 1) 2) ≡ true
+half-fits (pos n) e = below-fits32 (pos ((n + 1) / 2)) (omega (arith, fits32-below (pos n) e))
+half-fits (negsuc zero) e = below-fits32 (pos 0) (omega arith)
+half-fits (negsuc (suc n)) e =
+    rw (+ℤ-one (negsuc (suc n))) (below-fits32 (negsuc (n / 2)) (omega (arith, fits32-below (negsuc (suc n)) e)))
+
+-- the shift as a pass
+shift-run : (h w : ℕ) (shift : Bool) (P : Picture) (row x : ℕ) → runAll h w (cond shift (halve ∷ []) []) P row x ≡ shifted shift (P row x)
+unfolding runAll run shifted
+shift-run h w true P row x = refl
+shift-run h w false P row x = refl
+
+-- its numbers fit where those before it do
+shift-fits : (h w : ℕ) (shift : Bool) (P : Picture) → AllFit h w P → allNewFit h w (cond shift (halve ∷ []) []) P ≡ true
+unfolding allNewFit run
+shift-fits h w true P fit =
+    and-true _ _ (new-all h w halve (run h w halve P) (λ row x r i assigned. half-fits (P row x) (fit row x r i))) refl
+shift-fits h w false P fit = refl
+
+module _ (f : Filter) (bh b : ℕ) (tall : 1 ≤ bh) (wide : 1 ≤ b) (I : Picture) (fit : AllFit (2 * bh) (2 * b) I) where
+  abbrev h : ℕ
+  h = 2 * bh
+
+  abbrev w : ℕ
+  w = 2 * b
+
+  abbrev byColumns : List Pass
+  byColumns = map columns (f .steps)
+
+  abbrev byRows : List Pass
+  byRows = map rows (f .steps)
+
+  abbrev shift : List Pass
+  shift = cond (f .shift) (halve ∷ []) []
+
+  -- the picture after the columns
+  abbrev filtered : Picture
+  filtered = runAll h w byColumns I
+
+  -- the test of the whole level, part by part
+  level-test : allNewFit h w (synthesisPasses f) I ≡ allNewFit h w byColumns I && (allNewFit h w byRows filtered && allNewFit h w shift (runAll h w byRows filtered))
+  unfolding synthesisPasses
+  level-test = allNewFit-append h w byColumns (byRows ++ shift) I ∙ ap (λ (t : Bool). allNewFit h w byColumns I && t) (allNewFit-append h w byRows shift filtered)
+
+  -- and its picture
+  level-run : runAll h w (synthesisPasses f) I ≡ runAll h w shift (runAll h w byRows filtered)
+  unfolding synthesisPasses
+  level-run = runAll-append h w byColumns (byRows ++ shift) I ∙ runAll-append h w byRows shift filtered
+
+  -- S is the level's interleaved picture, as it stands in the plane
+  module _ (S : Picture) (same : Agree h w (halved b S) I) where
+    abbrev evenH : EvenLength h
+    evenH = even-length bh tall
+
+    abbrev evenW : EvenLength w
+    evenW = even-length b wide
+
+    -- the test of the columns
+    columns-told : allNewFit h w byColumns S ≡ allNewFit h w byColumns I
+    columns-told =
+        sym (all-new-halved b h (f .steps) S)
+        ∙ same-test (allNewFit h w byColumns (halved b S)) (allNewFit h w byColumns I)
+          (allNewFit-same h w evenH evenW byColumns (halved b S) I same)
+          (allNewFit-same h w evenH evenW byColumns I (halved b S) (λ row x r i. sym (same row x r i)))
+
+    -- where it fails, the level's fails
+    pub level-fails : allNewFit h w byColumns S ≡ false → false ≡ allNewFit h w (synthesisPasses f) I
+    level-fails e = sym (level-test ∙ rw (sym columns-told ∙ e))
+
+    -- T is the picture that stands in the plane after the columns
+    module _ (passed : allNewFit h w byColumns S ≡ true) (T : Picture) (after : Agree h w T (runAll h w byColumns S)) where
+      columns-pass : allNewFit h w byColumns I ≡ true
+      columns-pass = sym columns-told ∙ passed
+
+      columns-done : Agree h w (halved b T) filtered
+      columns-done row x r i =
+          after row (halfPlace b x) r (half-inside b x i)
+          ∙ ap (λ (P : Picture). P row x) (sym (columns-halved b h w (f .steps) S))
+          ∙ runAll-same h w evenH evenW byColumns (halved b S) I same row x r i
+
+      rows-told : allNewFit h w byRows (halved b T) ≡ allNewFit h w byRows filtered
+      rows-told =
+          same-test (allNewFit h w byRows (halved b T)) (allNewFit h w byRows filtered)
+          (allNewFit-same h w evenH evenW byRows (halved b T) filtered columns-done)
+          (allNewFit-same h w evenH evenW byRows filtered (halved b T) (λ row x r i. sym (columns-done row x r i)))
+
+      -- the level's test is that of the rows, since the shift of numbers that fit fits
+      rows-decide : (t : Bool) → allNewFit h w byRows filtered ≡ t → t && allNewFit h w shift (runAll h w byRows filtered) ≡ t
+      rows-decide true e = shift-fits h w (f .shift) (runAll h w byRows filtered) (runAll-fits h w byRows filtered (runAll-fits h w byColumns I fit columns-pass) e)
+      rows-decide false e = refl
+
+      pub level-told : allNewFit h w byRows (halved b T) ≡ allNewFit h w (synthesisPasses f) I
+      level-told =
+          rows-told ∙ sym (level-test ∙ rw columns-pass (rows-decide (allNewFit h w byRows filtered) refl))
+
+      -- and its picture is the one that stands in the plane in the end
+      pub level-done : (U : Picture) → Agree h w U (λ row x. shifted (f .shift) (runAll h w byRows (halved b T) row x)) → Agree h w U (runAll h w (synthesisPasses f) I)
+      level-done U last row x r i =
+          last row x r i
+          ∙ ap (shifted (f .shift)) (runAll-same h w evenH evenW byRows (halved b T) filtered columns-done row x r i)
+          ∙ sym (shift-run h w (f .shift) (runAll h w byRows filtered) row x)
+          ∙ ap (λ (P : Picture). P row x) (sym level-run)
