@@ -24,6 +24,13 @@ pub and-false : (a b : Bool) → b ≡ false → a && b ≡ false
 and-false true b e = e
 and-false false b e = refl
 
+-- two tests of which each passes where the other does
+pub same-test : (a b : Bool) → (a ≡ true → b ≡ true) → (b ≡ true → a ≡ true) → a ≡ b
+same-test true true f g = refl
+same-test true false f g = sym (f refl)
+same-test false true f g = g refl
+same-test false false f g = refl
+
 module _ (test : ℕ → Bool) where
   pub all-none : allBelow 0 test ≡ true
   unfolding allBelow

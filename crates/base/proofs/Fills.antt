@@ -96,3 +96,8 @@ module _ {ℓ} {A : Type ℓ} where
   fill-tabulate l f =
       same-entries (length l) (fill l 0 (length l) f) (tabulate (length l) f) (length-fill l 0 f (length l)) (length-tabulate (length l) f)
       (λ i e h. getD-fill-start l f (length l) i e h h ∙ sym (getD-tabulate (length l) f i e h))
+
+-- zeros depend on the length alone
+pub zeros-length : (a b : List ℤ) → length a ≡ length b → zerosLike a ≡ zerosLike b
+unfolding zerosLike
+zeros-length a b same = ap (λ (n : ℕ). replicate n (pos 0)) same

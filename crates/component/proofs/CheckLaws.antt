@@ -47,6 +47,10 @@ module _ (p : Parameters) where
   unfolding depthInRange
   depth-most e = range-most 0 4 (p .depth) e
 
+  pub wavelet-most : waveletInRange p ≡ true → p .wavelet ≤ 6
+  unfolding waveletInRange
+  wavelet-most e = range-most 0 6 (p .wavelet) e
+
   -- both areas are at most 2^24
   pub area-most : sizesInRange p ≡ true → depthInRange p ≡ true → areaOf p ≤ 16777216
   unfolding areaOf

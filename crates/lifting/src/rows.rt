@@ -36,6 +36,7 @@ pub fn filter_rows(
     requires { ⌜ Placed frame (now work) × (wavelet ≤ 6) ⌝ }
     ensures told { λ r. ⌜ r ≡ allNewFit (2 * frame .«band_rows») (2 * frame .«band_columns») (map rows (filterOf wavelet .steps)) (halvesOf (frame .«band_columns») (frame .stride) (now (work .entry))) ⌝ }
     ensures done { λ r. ⌜ (r ≡ true → Agree (2 * frame .«band_rows») (2 * frame .«band_columns») (pictureOf (frame .stride) (now (work .exit))) (λ row x. shifted (filterOf wavelet .shift) (runAll (2 * frame .«band_rows») (2 * frame .«band_columns») (map rows (filterOf wavelet .steps)) (halvesOf (frame .«band_columns») (frame .stride) (now (work .entry))) row x))) ⌝ }
+    ensures fit { λ r. ⌜ (r ≡ true → (row x : ℕ) → row < 2 * frame .«band_rows» → x < 2 * frame .«band_columns» → fits32 (shifted (filterOf wavelet .shift) (runAll (2 * frame .«band_rows») (2 * frame .«band_columns») (map rows (filterOf wavelet .steps)) (halvesOf (frame .«band_columns») (frame .stride) (now (work .entry))) row x)) ≡ true) ⌝ }
 {
     let half = frame.band_columns;
     let stride = frame.stride;

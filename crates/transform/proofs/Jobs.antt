@@ -1,7 +1,9 @@
 -- The laws of a component's planes: its analysis undone, its numbers in range, and the checks that it passes.
 -- Assumes nothing.
 use mathlib.Core.Path.{_≡_, refl, sym, ap, _∙_}
-use mathlib.Core.Bool.{true, not}
+use mathlib.Core.Logic.{_≢_}
+use mathlib.Core.Bool.{true, not, _&&_}
+use lib.Dec.{eqb}
 use mathlib.Core.List.{List}
 use Prim.Native.Nat.{ℕ, _+_, _*_, _≤_}
 use native.Mathlib.Nat.{mul-comm}
@@ -9,13 +11,14 @@ use native.Mathlib.Omega.{arith}
 use lib.Arith.{digits-lt}
 use lib.IntN.{ℤ, pos}
 use lib.ListN.{length, getD}
-use borrow.Author.Tests.{eq-eqb}
+use borrow.Author.Tests.{eq-eqb, ne-eqb, eqb-true}
 use Rattle.base.specs.Every.{allBelow}
 use Rattle.base.specs.Range.{fits32}
 use Rattle.base.proofs.Everys.{and-left, and-right, and-true, all-at}
 use Rattle.component.specs.Sizes.{sizeAt}
 use Rattle.component.specs.Checks.{sizesInRange, depthInRange, waveletInRange, areaOf, planesFit, refusalOf}
 use Rattle.component.specs.declared.parameters.Parameters.{Parameters}
+use Rattle.component.specs.declared.parameters.Lengths.{Lengths}
 use Rattle.component.specs.declared.parameters.Job.the-variants.{Synthesise}
 use Rattle.component.proofs.SizeLaws.{padded-least, low-some, sizeAt-padded}
 use Rattle.component.proofs.CheckLaws.{width-least, height-least, refused-none}
@@ -23,7 +26,7 @@ use Rattle.lifting.specs.Filters.{filterOf}
 use Rattle.lifting.specs.Passes.{Picture}
 use Rattle.transform.specs.Analysis.{analysis}
 use Rattle.lifting.specs.Planes.{pictureOf, raster}
-use Rattle.transform.specs.Job.{paddedWidth, paddedHeight, lowWidth, lowHeight, pictureFrom, badLevel, lengthsOf, analysed, analysisStaysIn32}
+use Rattle.transform.specs.Job.{paddedWidth, paddedHeight, lowWidth, lowHeight, pictureFrom, badLevel, lengthsOf, analysed, analysisStaysIn32, unchanged, overflowed, accepted, transformed, synthesised}
 use Rattle.lifting.specs.Layout.{Agree}
 use Rattle.lifting.proofs.PassLaws.{AllFit}
 use Rattle.transform.proofs.LevelLaws.{synthesis-back, synthesis-fits}
@@ -100,3 +103,36 @@ no-refusal p sizes depth wavelet plane work samples workSize samplesSize =
     let coefficientsSize = length-raster (paddedHeight p) (paddedWidth p) (analysedPicture p plane) ∙ mul-comm (paddedHeight p) (paddedWidth p) in
     let fit = and-true _ _ (eq-eqb _ _ coefficientsSize) (and-true _ _ (eq-eqb _ _ workSize) (eq-eqb _ _ samplesSize)) in
     sym (refused-none Synthesise p _ sizes depth (ap not wavelet) refl fit)
+
+-- planes that fit have the lengths that they need
+pub record Fitted (p : Parameters) (l : Lengths) : Type 0 where
+  pub coefficients-fit : l .coefficients ≡ areaOf p
+  pub work-fits : l .work ≡ areaOf p
+  pub samples-fit : l .samples ≡ p .width * p .height
+
+pub fitted : (p : Parameters) (l : Lengths) → planesFit Synthesise p l ≡ true → Fitted p l
+unfolding planesFit
+fitted p l e =
+    let rest = and-right (eqb (l .coefficients) (areaOf p)) (eqb (l .work) (areaOf p) && eqb (l .samples) (p .width * p .height)) e in
+    record {
+      coefficients-fit = eqb-true _ _ (and-left _ _ e);
+      work-fits = eqb-true _ _ (and-left _ _ rest);
+      samples-fit = eqb-true _ _ (and-right (eqb (l .work) (areaOf p)) _ rest)
+    }
+
+-- the three ways that the job ends
+module _ (p : Parameters) (coefficients work samples : List ℤ) where
+  abbrev status : ℕ
+  status = refusalOf Synthesise p (lengthsOf coefficients work samples)
+
+  pub job-refused : status ≢ 0 → synthesised p coefficients work samples ≡ unchanged status work samples
+  unfolding synthesised
+  job-refused some = rw (ne-eqb status 0 some)
+
+  pub job-overflowed : status ≡ 0 → badLevel p coefficients ≢ 0 → synthesised p coefficients work samples ≡ overflowed (badLevel p coefficients) work samples
+  unfolding synthesised transformed
+  job-overflowed none some = rw (eq-eqb status 0 none, ne-eqb (badLevel p coefficients) 0 some)
+
+  pub job-accepted : status ≡ 0 → badLevel p coefficients ≡ 0 → synthesised p coefficients work samples ≡ accepted p coefficients work
+  unfolding synthesised transformed
+  job-accepted none fine = rw (eq-eqb status 0 none, eq-eqb (badLevel p coefficients) 0 fine)

@@ -6,36 +6,26 @@ use mathlib.Core.List.{List, [], _∷_, _++_, map}
 use Prim.Native.Nat.{ℕ, zero, suc, _+_, _-_, _*_, _/_, _%_, _≤_, _<_}
 use native.Mathlib.Decide.{decLt, ℕ-discrete}
 use native.Mathlib.Omega.{arith}
-use lib.IntN.{ℤ, pos, negsuc, _+ℤ_, +ℤ-one}
-use lib.Signed.{mag}
+use lib.IntN.{ℤ}
 use lib.Dec.{ltb}
 use borrow.Author.Tests.{eq-eqb, ne-eqb, lt-ltb, le-ltb}
-use Rattle.base.specs.Floor.{floorDiv}
 use Rattle.base.specs.Range.{fits32}
-use Rattle.base.proofs.Everys.{and-left, and-right, and-true}
-use Rattle.base.proofs.Ranges.{fits32-below, below-fits32}
+use Rattle.base.proofs.Everys.{and-true, same-test}
 use Rattle.lines.specs.Buffers.{shifted}
 use Rattle.lifting.specs.Lifting.{Step}
 use Rattle.lifting.specs.Filters.{Filter}
 use Rattle.lifting.specs.Passes.{Picture, Pass, columns, rows, halve, run, runAll, assigns, newFit, allNewFit}
 use Rattle.lifting.specs.Layout.{Agree, halfPlace}
 use Rattle.lifting.proofs.Lifts.{EvenLength}
-use Rattle.lifting.proofs.PassLaws.{AllFit, new-each, new-all, runAll-fits, runAll-append, allNewFit-append, runAll-same, allNewFit-same}
+use Rattle.lifting.proofs.PassLaws.{AllFit, new-each, new-all, runAll-append, allNewFit-append, runAll-same, allNewFit-same}
 use Rattle.transform.specs.Synthesis.{synthesisPasses}
-
--- two tests of which each passes where the other does
-same-test : (a b : Bool) → (a ≡ true → b ≡ true) → (b ≡ true → a ≡ true) → a ≡ b
-same-test true true f g = refl
-same-test true false f g = sym (f refl)
-same-test false true f g = g refl
-same-test false false f g = refl
 
 -- The column whose place in a row of halves is c.
 unhalved : ℕ → ℕ → ℕ
 unhalved b c = cond (ltb c b) (2 * c) (2 * (c - b) + 1)
 
 -- twice a size that is not 0
-even-length : (b : ℕ) → 1 ≤ b → EvenLength (2 * b)
+pub even-length : (b : ℕ) → 1 ≤ b → EvenLength (2 * b)
 even-length b some = record { even = omega arith; some = omega arith }
 
 module _ (b : ℕ) where
@@ -88,27 +78,19 @@ module _ (b : ℕ) where
   all-new-halved h [] S = refl
   all-new-halved h (s ∷ ss) S = rw (new-halved h s (run h (2 * b) (columns s) S), all-new-halved h ss (run h (2 * b) (columns s) S))
 
--- half of a number that fits, rounded up, fits
-half-fits : (v : ℤ) → fits32 v ≡ true → fits32 (floorDiv (v +ℤ pos 1) 2) ≡ true
-half-fits (pos n) e = below-fits32 (pos ((n + 1) / 2)) (omega (arith, fits32-below (pos n) e))
-half-fits (negsuc zero) e = below-fits32 (pos 0) (omega arith)
-half-fits (negsuc (suc n)) e =
-    rw (+ℤ-one (negsuc (suc n))) (below-fits32 (negsuc (n / 2)) (omega (arith, fits32-below (negsuc (suc n)) e)))
-
 -- the shift as a pass
 shift-run : (h w : ℕ) (shift : Bool) (P : Picture) (row x : ℕ) → runAll h w (cond shift (halve ∷ []) []) P row x ≡ shifted shift (P row x)
 unfolding runAll run shifted
 shift-run h w true P row x = refl
 shift-run h w false P row x = refl
 
--- its numbers fit where those before it do
-shift-fits : (h w : ℕ) (shift : Bool) (P : Picture) → AllFit h w P → allNewFit h w (cond shift (halve ∷ []) []) P ≡ true
-unfolding allNewFit run
-shift-fits h w true P fit =
-    and-true _ _ (new-all h w halve (run h w halve P) (λ row x r i assigned. half-fits (P row x) (fit row x r i))) refl
+-- the test of its numbers
+shift-fits : (h w : ℕ) (shift : Bool) (P : Picture) → AllFit h w (λ row x. shifted shift (P row x)) → allNewFit h w (cond shift (halve ∷ []) []) P ≡ true
+unfolding allNewFit run shifted
+shift-fits h w true P fit = and-true _ _ (new-all h w halve (run h w halve P) (λ row x r i assigned. fit row x r i)) refl
 shift-fits h w false P fit = refl
 
-module _ (f : Filter) (bh b : ℕ) (tall : 1 ≤ bh) (wide : 1 ≤ b) (I : Picture) (fit : AllFit (2 * bh) (2 * b) I) where
+module _ (f : Filter) (bh b : ℕ) (tall : 1 ≤ bh) (wide : 1 ≤ b) (I : Picture) where
   abbrev h : ℕ
   h = 2 * bh
 
@@ -175,17 +157,26 @@ module _ (f : Filter) (bh b : ℕ) (tall : 1 ≤ bh) (wide : 1 ≤ b) (I : Pictu
           (allNewFit-same h w evenH evenW byRows (halved b T) filtered columns-done)
           (allNewFit-same h w evenH evenW byRows filtered (halved b T) (λ row x r i. sym (columns-done row x r i)))
 
-      -- the level's test is that of the rows, since the shift of numbers that fit fits
-      rows-decide : (t : Bool) → allNewFit h w byRows filtered ≡ t → t && allNewFit h w shift (runAll h w byRows filtered) ≡ t
-      rows-decide true e = shift-fits h w (f .shift) (runAll h w byRows filtered) (runAll-fits h w byRows filtered (runAll-fits h w byColumns I fit columns-pass) e)
-      rows-decide false e = refl
+      -- The picture after the shift, as the code computes it.
+      abbrev shiftedRows : Picture
+      shiftedRows row x = shifted (f .shift) (runAll h w byRows (halved b T) row x)
 
-      pub level-told : allNewFit h w byRows (halved b T) ≡ allNewFit h w (synthesisPasses f) I
-      level-told =
-          rows-told ∙ sym (level-test ∙ rw columns-pass (rows-decide (allNewFit h w byRows filtered) refl))
+      -- the level's test is that of the rows, since the numbers of the shift fit where the rows' do
+      rows-decide : (allNewFit h w byRows (halved b T) ≡ true → AllFit h w shiftedRows) →
+          (t : Bool) → allNewFit h w byRows filtered ≡ t → t && allNewFit h w shift (runAll h w byRows filtered) ≡ t
+      rows-decide fit true e =
+          shift-fits h w (f .shift) (runAll h w byRows filtered)
+          (λ row x r i.
+            subst (λ (v : ℤ). fits32 (shifted (f .shift) v) ≡ true) (runAll-same h w evenH evenW byRows (halved b T) filtered columns-done row x r i)
+            (fit (rows-told ∙ e) row x r i))
+      rows-decide fit false e = refl
+
+      pub level-told : (allNewFit h w byRows (halved b T) ≡ true → AllFit h w shiftedRows) → allNewFit h w byRows (halved b T) ≡ allNewFit h w (synthesisPasses f) I
+      level-told fit =
+          rows-told ∙ sym (level-test ∙ rw columns-pass (rows-decide fit (allNewFit h w byRows filtered) refl))
 
       -- and its picture is the one that stands in the plane in the end
-      pub level-done : (U : Picture) → Agree h w U (λ row x. shifted (f .shift) (runAll h w byRows (halved b T) row x)) → Agree h w U (runAll h w (synthesisPasses f) I)
+      pub level-done : (U : Picture) → Agree h w U shiftedRows → Agree h w U (runAll h w (synthesisPasses f) I)
       level-done U last row x r i =
           last row x r i
           ∙ ap (shifted (f .shift)) (runAll-same h w evenH evenW byRows (halved b T) filtered columns-done row x r i)

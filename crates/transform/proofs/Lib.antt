@@ -7,3 +7,4 @@ pub mod Demand3
 pub mod BandLaws
 pub mod LevelSteps
 pub mod GeometryLaws
+pub mod Recursion

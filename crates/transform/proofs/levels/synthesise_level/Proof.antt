@@ -1,0 +1,136 @@
+-- `transform::levels::synthesise_level` meets its contract: interleaving, the columns and the rows, each by its callee, make up document 01's level.
+-- Assumes nothing.
+use mathlib.Core.Path.{_≡_, refl, sym, ap, _∙_, subst}
+use mathlib.Core.Bool.{true, false}
+use mathlib.Core.List.{List}
+use Prim.Native.Nat.{ℕ, suc, _+_, _-_, _*_, _^_, _≤_}
+use native.Mathlib.Omega.{arith}
+use borrow.Author.Needs.{needs}
+use borrow.Author.Tests.{not-true, not-false}
+use lib.IntN.{ℤ}
+use lib.ListN.{length}
+use denote.Ref.{now}
+use Rattle.component.specs.Sizes.{sizeAt}
+use Rattle.lifting.specs.Filters.{filterOf}
+use Rattle.lifting.specs.Layout.{Agree, Placed, halvesOf}
+use Rattle.lifting.specs.Passes.{Picture, allNewFit, runAll}
+use Rattle.lifting.specs.Planes.{pictureOf}
+use Rattle.transform.specs.Synthesis.{synthesisPasses, interleave}
+use Rattle.transform.proofs.GeometryLaws.{placed, next-columns, rows-whole, double-stride, low-rows-most, low-columns-most}
+use Rattle.transform.proofs.LevelSteps.{level-fails, level-told, level-done}
+use Rattle.transform.proofs.levels.synthesise_level.Statement.{statement}
+use Rattle.transform.proofs.levels.synthesise_level.Tie as tie
+
+-- a fact about four numbers, carried to equal ones
+carried : (P : ℕ → ℕ → ℕ → ℕ → Type 0) (a b s t a′ b′ s′ t′ : ℕ) → a ≡ a′ → b ≡ b′ → s ≡ s′ → t ≡ t′ → P a b s t → P a′ b′ s′ t′
+carried P a b s t a′ b′ s′ t′ ea eb es et h =
+    subst (λ (x : ℕ). P x b′ s′ t′) ea (subst (λ (x : ℕ). P a x s′ t′) eb (subst (λ (x : ℕ). P a b x t′) es (subst (λ (x : ℕ). P a b s x) et h)))
+
+next-frame-requires : tie.Need-next-frame-requires
+next-frame-requires c κs =
+    let g = c .pre .0 in
+    (g .depth-most, c .pre .3, g .width-most, low-rows-most _ _ g, low-columns-most _ _ g)
+
+-- the frame is placed in any plane as long as the work plane
+placed-in : (c : tie.After-next-frame) (plane : List ℤ) → length plane ≡ length (c .before .args .work .now) → Placed (c .next-frame .result) plane
+placed-in c plane long =
+    let told = c .next-frame .ensures in
+    placed _ _ (c .before .pre .0) (c .before .args .below) (c .before .pre .3) (c .next-frame .result) (told .0) (told .1) (told .2) plane long
+
+interleave-bands-requires : tie.Need-interleave-bands-requires
+interleave-bands-requires c κs =
+    let framed = c .before in
+    let start = framed .before in
+    let told = framed .next-frame .ensures in
+    (placed-in framed _ refl,
+      (rw (told .2) (next-columns _ _ (start .pre .0) (start .args .below) (start .pre .3)),
+        rw (told .1, start .pre .1) (rows-whole _ _ (start .pre .0) (start .args .below) (start .pre .3))))
+
+filter-columns-requires : tie.Need-filter-columns-requires
+filter-columns-requires c κs = (placed-in (c .before .before .before .before .before) _ (c .before .before .before .interleave-bands .kept .0), c .before .before .before .before .before .before .pre .2)
+
+same-length : tie.Need-same-length
+same-length c = c .before .before .filter-columns .kept .0 ∙ c .before .before .before .before .before .before .interleave-bands .kept .0
+
+-- what the level's bands and the picture below make up, by the frame and by the contract
+module _ (c : tie.After-next-frame) where
+  abbrev F : ℕ
+  F = c .next-frame .result .stride
+
+  abbrev start-work : List ℤ
+  start-work = c .before .args .work .now
+
+  abbrev coefficient-picture : Picture
+  coefficient-picture = pictureOf (c .before .args .extent .«padded_width») (c .before .args .coefficients .now)
+
+  abbrev woven : Picture
+  woven = interleave (c .next-frame .result .«band_rows») (c .next-frame .result .«band_columns») (pictureOf (2 * F) start-work) coefficient-picture
+
+  -- the same, with the sizes that the contract names
+  by-sizes : (P : ℕ → ℕ → ℕ → ℕ → Type 0) → P (c .next-frame .result .«band_rows») (c .next-frame .result .«band_columns») F (2 * F) →
+      P (sizeAt (c .before .args .extent .«low_rows») (c .before .args .below)) (sizeAt (c .before .args .extent .«low_columns») (c .before .args .below))
+        (c .before .args .extent .«padded_width» * 2 ^ (c .before .args .extent .depth - suc (c .before .args .below)))
+        (c .before .args .extent .«padded_width» * 2 ^ (c .before .args .extent .depth - c .before .args .below))
+  by-sizes P holds =
+      let told = c .next-frame .ensures in
+      carried P _ _ _ _ _ _ _ _ (told .1) (told .2) (told .0)
+      (ap (λ (s : ℕ). 2 * s) (told .0) ∙ double-stride _ _ (c .before .pre .0) (c .before .args .below) (c .before .pre .3)) holds
+
+returns : tie.Need-returns
+unfolding sizeAt halvesOf pictureOf
+returns c =
+    let framed = c .before .before .before .before .before .before .before .before in
+    let frame = framed .next-frame .result in
+    let sizes = placed-in framed (start-work framed) refl in
+    (by-sizes framed
+      (λ bh bw s s2. false ≡ allNewFit (2 * bh) (2 * bw) (synthesisPasses (filterOf (framed .before .args .wavelet))) (interleave bh bw (pictureOf s2 (start-work framed)) (coefficient-picture framed)))
+      (level-fails (filterOf (framed .before .args .wavelet)) (frame .«band_rows») (frame .«band_columns») (sizes .rows-least) (sizes .columns-least) (woven framed)
+        (pictureOf (frame .stride) (c .before .before .before .before .before .before .interleave-bands .last .0)) (c .before .before .before .before .before .before .interleave-bands .ensures)
+        (sym (c .before .before .filter-columns .ensures .0) ∙ not-true _ (c .if1 .taken))),
+      λ e. let z : _≡_ {A = ℕ} 0 1 = cc in absurd (omega arith))
+
+filter-rows-requires : tie.Need-filter-rows-requires
+filter-rows-requires c κs =
+    (placed-in (c .before .before .before .before .before .before .before .before .before .before .before .before) _ (c .before .before .before .before .before .before .filter-columns .kept .0 ∙ c .before .before .before .before .before .before .before .before .before .before .interleave-bands .kept .0), c .before .before .before .before .before .before .before .before .before .before .before .before .before .pre .2)
+
+same-length-2 : tie.Need-same-length-2
+same-length-2 c = c .before .filter-rows .kept .0 ∙ c .before .before .before .before .before .before .before .before .filter-columns .kept .0 ∙ c .before .before .before .before .before .before .before .before .before .before .before .before .interleave-bands .kept .0
+
+returns-2 : tie.Need-returns-2
+unfolding sizeAt halvesOf pictureOf
+returns-2 c =
+    let framed = c .before .before .before .before .before .before .before .before .before .before .before .before .before .before in
+    let frame = framed .next-frame .result in
+    let sizes = placed-in framed (start-work framed) refl in
+    let filter = filterOf (framed .before .args .wavelet) in
+    let columns-ok = c .before .before .before .before .before .before .before .before .filter-columns in
+    let rows-ok = c .before .filter-rows in
+    let passed = sym (columns-ok .ensures .0) ∙ not-false _ (c .before .before .before .before .before .before .if1 .left) in
+    let after = columns-ok .ensures .1 (not-false _ (c .before .before .before .before .before .before .if1 .left)) in
+    (by-sizes framed
+      (λ bh bw s s2. rows-ok .result ≡ allNewFit (2 * bh) (2 * bw) (synthesisPasses filter) (interleave bh bw (pictureOf s2 (start-work framed)) (coefficient-picture framed)))
+      (rows-ok .ensures .0
+        ∙ level-told filter (frame .«band_rows») (frame .«band_columns») (sizes .rows-least) (sizes .columns-least) (woven framed)
+          (pictureOf (frame .stride) (c .before .before .before .before .before .before .before .before .before .before .before .before .interleave-bands .last .0)) (c .before .before .before .before .before .before .before .before .before .before .before .before .interleave-bands .ensures) passed
+          (pictureOf (frame .stride) (columns-ok .last .0)) after
+          (λ e. rows-ok .ensures .1 .1 (rows-ok .ensures .0 ∙ e))),
+      λ e.
+        by-sizes framed
+        (λ bh bw s s2. Agree (2 * bh) (2 * bw) (pictureOf s (rows-ok .last .0)) (runAll (2 * bh) (2 * bw) (synthesisPasses filter) (interleave bh bw (pictureOf s2 (start-work framed)) (coefficient-picture framed))))
+        (level-done filter (frame .«band_rows») (frame .«band_columns») (sizes .rows-least) (sizes .columns-least) (woven framed)
+          (pictureOf (frame .stride) (c .before .before .before .before .before .before .before .before .before .before .before .before .interleave-bands .last .0)) (c .before .before .before .before .before .before .before .before .before .before .before .before .interleave-bands .ensures) passed
+          (pictureOf (frame .stride) (columns-ok .last .0)) after
+          (pictureOf (frame .stride) (rows-ok .last .0)) (rows-ok .ensures .1 .0 e)))
+
+pub synthesise-level-spec : {M : Type 1} → statement M
+synthesise-level-spec =
+    tie.close
+    (tie.spec
+    next-frame-requires
+    interleave-bands-requires
+    filter-columns-requires
+    same-length
+    returns
+    filter-rows-requires
+    same-length-2
+    returns-2)
