@@ -66,3 +66,9 @@ module _ (test : ℕ → Bool) where
             let last : n ≡ k = omega arith in
             and-false (allBelow n test) (test n) (rw last e)
       ]
+
+-- tests that agree below the bound
+pub all-same : (test₁ test₂ : ℕ → Bool) (n : ℕ) → ((k : ℕ) → k < n → test₁ k ≡ test₂ k) → allBelow n test₁ ≡ allBelow n test₂
+unfolding allBelow
+all-same test₁ test₂ zero same = refl
+all-same test₁ test₂ (suc n) same = rw (all-same test₁ test₂ n (λ k h. same k (omega arith)), same n (omega arith))

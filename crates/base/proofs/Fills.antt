@@ -61,6 +61,12 @@ module _ {ℓ} {A : Type ℓ} (l : List A) (d : ℕ) (f : ℕ → A) where
 pub getD-fill-start {ℓ} : {A : Type ℓ} (l : List A) (f : ℕ → A) (n i : ℕ) (e : A) → i < n → i < length l → getD (fill l 0 n f) i e ≡ f i
 getD-fill-start l f n i e h inside = rw (zero-add i) at (getD-fill-in l 0 f n i e h (omega arith))
 
+-- stores of the same numbers
+pub fill-same {ℓ} : {A : Type ℓ} (l : List A) (d : ℕ) (f g : ℕ → A) (n : ℕ) → ((k : ℕ) → k < n → f k ≡ g k) → fill l d n f ≡ fill l d n g
+unfolding fill
+fill-same l d f g zero same = refl
+fill-same l d f g (suc n) same = rw (fill-same l d f g n (λ k h. same k (omega arith)), same n (omega arith))
+
 -- a plane filled with zeros from its start to its end
 pub fill-zeros : (l : List ℤ) → fill l 0 (length l) (λ k. pos 0) ≡ zerosLike l
 unfolding zerosLike

@@ -12,20 +12,20 @@ use Rattle.base.specs.Fill.{fill}
 use Rattle.base.proofs.Fills.{getD-fill-in, getD-fill-out}
 
 -- a row ends before the next one starts
+pub row-room : (stride row rows : ℕ) → row < rows → row * stride + stride ≤ rows * stride
+row-room stride row rows below = rw suc-mul at (mul-le-mul-right stride below)
+
 pub row-end : (row rows stride width : ℕ) → row < rows → width ≤ stride → row * stride + width ≤ rows * stride
-row-end row rows stride width below narrow =
-    let next : suc row * stride ≤ rows * stride = mul-le-mul-right stride below in
-    let is : suc row * stride ≡ row * stride + stride = suc-mul row stride in
-    omega arith
+row-end row rows stride width below narrow = omega (arith, row-room stride row rows below)
 
 -- places in different rows differ
 pub rows-apart : (s a b x y : ℕ) → a ≢ b → x < s → y < s → a * s + x ≢ b * s + y
 rows-apart s a b x y other hx hy same =
     elim (decLt a b) [
-      yes below ↦ omega (arith, row-end a b s s below (omega arith))
-    | no notBelow ↦
-        let above : b < a = omega arith in
-        omega (arith, row-end b a s s above (omega arith))
+      | yes below ↦ omega (arith, row-end a b s s below (omega arith))
+      | no notBelow ↦
+          let above : b < a = omega arith in
+          omega (arith, row-end b a s s above (omega arith))
     ]
 
 -- a part of row a, from column o on, that starts at place p and is filled
@@ -53,12 +53,12 @@ pub rows-stored :
     → (r x : ℕ) → r < row + 1 → x < n → getD (fill l (row * s) n (f row)) (r * s + x) e ≡ f r x
 rows-stored l s row n f e narrow room sofar r x below inside =
     elim (decLt r row) [
-      yes earlier ↦
-        getD-fill-out l (row * s) (f row) n (r * s + x) e
-        (λ k h same. rows-apart s r row x k (omega arith) (omega arith) (omega arith) same)
-        ∙ sofar r x earlier inside
-    | no last ↦
-        let here : row ≡ r = omega arith in
-        subst (λ (q : ℕ). getD (fill l (row * s) n (f row)) (q * s + x) e ≡ f q x) here
-        (getD-fill-in l (row * s) (f row) n x e inside (omega arith))
+      | yes earlier ↦
+          getD-fill-out l (row * s) (f row) n (r * s + x) e
+          (λ k h same. rows-apart s r row x k (omega arith) (omega arith) (omega arith) same)
+          ∙ sofar r x earlier inside
+      | no last ↦
+          let here : row ≡ r = omega arith in
+          subst (λ (q : ℕ). getD (fill l (row * s) n (f row)) (q * s + x) e ≡ f q x) here
+          (getD-fill-in l (row * s) (f row) n x e inside (omega arith))
     ]

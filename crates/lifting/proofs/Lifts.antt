@@ -119,10 +119,17 @@ module _ (N : ℕ) (size : EvenLength N) where
     unfolding update
     update-same n = rw (sum-same n (s .first) (s .taps))
 
+  -- lines that agree at a place, and at the places that a step does not change, agree there after it
+  pub lift-at :
+      (s : Step) (A B : Line)
+      → ((x : ℕ) → x < N → changes (s .type) x ≡ false → A x ≡ B x)
+      → (x : ℕ) → A x ≡ B x → lift s N A x ≡ lift s N B x
+  unfolding lift
+  lift-at s A B agree x here = rw (here, update-same s A B agree (x / 2))
+
   -- lines that agree in their length agree after a step
   pub lift-same : (s : Step) (A B : Line) → ((x : ℕ) → x < N → A x ≡ B x) → (x : ℕ) → x < N → lift s N A x ≡ lift s N B x
-  unfolding lift
-  lift-same s A B agree x inside = rw (agree x inside, update-same s A B (λ y below kept. agree y below) (x / 2))
+  lift-same s A B agree x inside = lift-at s A B (λ y below kept. agree y below) x (agree x inside)
 
   -- the exchanged step undoes a step, at every place
   pub exchange-undoes : (s : Step) (A : Line) (x : ℕ) → lift (exchange s) N (lift s N A) x ≡ A x

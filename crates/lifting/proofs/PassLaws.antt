@@ -1,14 +1,16 @@
--- The laws of passes over a picture: what a pass keeps, which numbers fit after it, passes after passes, and pictures that agree.
+-- The laws of passes over a picture: what a pass keeps, which numbers fit after it, passes after passes, pictures that agree, and the
+-- passes of a list run one by one.
 -- Assumes nothing.
-use mathlib.Core.Path.{_≡_, refl, sym, _∙_}
+use mathlib.Core.Path.{_≡_, refl, sym, ap, _∙_}
 use mathlib.Core.Bool.{Bool, true, false, not, _&&_, _||_, and-assoc}
 use mathlib.Core.List.{List, [], _∷_, _++_}
-use Prim.Native.Nat.{ℕ, _<_}
-use lib.IntN.{ℤ}
+use Prim.Native.Nat.{ℕ, suc, _+_, _<_}
+use native.Mathlib.Numerals.{add-one}
+use lib.ListN.{length, getD, take, drop}
+use lib.Seq.{take-suc, split-at}
 use Rattle.base.specs.Every.{allBelow}
 use Rattle.base.specs.Range.{fits32}
-use Rattle.base.proofs.Everys.{and-left, and-right, and-true, all-at, all-from}
-use Rattle.lifting.specs.Lifting.{Step}
+use Rattle.base.proofs.Everys.{and-left, and-right, and-true, all-at, all-from, all-same}
 use Rattle.lifting.specs.Layout.{Agree}
 use Rattle.lifting.specs.Passes.{Picture, Pass, columns, rows, halve, double, run, runAll, assigns, newFit, allNewFit}
 use Rattle.lifting.proofs.Lifts.{EvenLength, lift-same, lift-keeps}
@@ -88,6 +90,46 @@ module _ (h w : ℕ) where
   allNewFit-append (p ∷ ps) qs P =
       rw (allNewFit-append ps qs (run h w p P)) (sym (and-assoc (newFit h w p (run h w p P)) (allNewFit h w ps (run h w p P)) _))
 
+  -- the new numbers of a pass fit alike in pictures that agree
+  pub new-same : (p : Pass) (P Q : Picture) → Agree h w P Q → newFit h w p P ≡ newFit h w p Q
+  unfolding newFit
+  new-same p P Q same =
+      all-same (λ row. allBelow w (newTest p P row)) (λ row. allBelow w (newTest p Q row)) h
+      (λ row r. all-same (newTest p P row) (newTest p Q row) w (λ column c. rw (same row column r c)))
+
+  -- The passes of a list up to pass k were run, and the picture Q is what they made of P; p is pass k.
+  module _
+      (ps : List Pass) (k : ℕ) (p : Pass) (P Q : Picture)
+      (inside : k < length ps)
+      (is : getD ps k p ≡ p)
+      (same : (A B : Picture) → Agree h w A B → Agree h w (run h w p A) (run h w p B))
+      (fits : allNewFit h w (take k ps) P ≡ true)
+      (made : Agree h w Q (runAll h w (take k ps) P))
+    where
+      -- pass k too, if its new numbers fit
+      pub passes-more :
+          (Q' : Picture) → newFit h w p (run h w p Q) ≡ true → Agree h w Q' (run h w p Q)
+          → (allNewFit h w (take (k + 1) ps) P ≡ true) × Agree h w Q' (runAll h w (take (k + 1) ps) P)
+      unfolding runAll allNewFit
+      passes-more Q' new result =
+          let longer : take (k + 1) ps ≡ take k ps ++ (p ∷ []) = rw (add-one k) (take-suc ps k p inside ∙ rw is) in
+          let after = same Q (runAll h w (take k ps) P) made in (
+            rw longer
+                (allNewFit-append (take k ps) (p ∷ []) P
+                ∙ and-true _ _ fits (and-true _ true (sym (new-same p _ _ after) ∙ new) refl)),
+            λ row column r c. rw (longer, runAll-append (take k ps) (p ∷ []) P) (result row column r c ∙ after row column r c),
+          )
+
+      -- if not, the new numbers of the list do not
+      pub passes-stop : newFit h w p (run h w p Q) ≡ false → allNewFit h w ps P ≡ false
+      unfolding allNewFit
+      passes-stop failed =
+          let whole : ps ≡ take k ps ++ p ∷ drop (suc k) ps = split-at ps k p inside ∙ rw is in
+          let after = same Q (runAll h w (take k ps) P) made in
+          ap (λ l. allNewFit h w l P) whole
+          ∙ allNewFit-append (take k ps) (p ∷ drop (suc k) ps) P
+          ∙ rw (fits, ← new-same p (run h w p Q) (run h w p (runAll h w (take k ps) P)) after, failed)
+
 module _ (h w : ℕ) (tall : EvenLength h) (wide : EvenLength w) where
   -- pictures that agree agree after a pass
   pub run-same : (p : Pass) (P Q : Picture) → Agree h w P Q → Agree h w (run h w p P) (run h w p Q)
@@ -110,7 +152,5 @@ module _ (h w : ℕ) (tall : EvenLength h) (wide : EvenLength w) where
   allNewFit-same [] P Q same new = refl
   allNewFit-same (p ∷ ps) P Q same new =
       let after = run-same p P Q same in
-      let fit = new-each h w p (run h w p P) (and-left _ _ new) in
-      and-true _ _
-      (new-all h w p (run h w p Q) (λ row column r c assigned. rw (after row column r c) at (fit row column r c assigned)))
+      and-true _ _ (sym (new-same h w p (run h w p P) (run h w p Q) after) ∙ and-left _ _ new)
       (allNewFit-same ps (run h w p P) (run h w p Q) after (and-right (newFit h w p (run h w p P)) _ new))

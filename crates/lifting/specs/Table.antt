@@ -23,7 +23,7 @@ stepOf r =
       type = typeOf (r .even) (r .adds);
       first = pos (r .lead) -ℤ pos (cond (r .even) 3 4);
       taps = take (r .count) (r .taps);
-      scale = r .scale
+      scale = r .scale;
     }
 
 -- The sizes that keep a step's sums within 64 bits and its reads within a line buffer.

@@ -2,7 +2,7 @@
 ghost use mathlib.Core.Path.{_≡_};
 ghost use mathlib.Core.Bool.{true};
 ghost use mathlib.Core.List.{map};
-ghost use Prim.Native.Nat.{ℕ, _+_, _*_, _≤_, _<_};
+ghost use Prim.Native.Nat.{ℕ, _+_, _*_, _^_, _≤_, _<_};
 ghost use lib.ListN.{length, getD};
 ghost use Rattle.base.specs.Every.{allBelow};
 ghost use Rattle.base.specs.Fill.{fill};
@@ -13,8 +13,12 @@ ghost use Rattle.lifting.specs.Passes.{columns, run, runAll, newFit, all
 ghost use Rattle.lifting.specs.Planes.{pictureOf};
 ghost use Rattle.lifting.specs.Table.{stepOf, Sane};
 ghost use Rattle.lifting.specs.Layout.{Agree, Placed, targetRow, sourceRow};
-use crate::filters::{rounding_of, step_at, step_count, LiftingStep};
-use lines::sums::{lift_line, sum_taps};
+use crate::filters::LiftingStep;
+use crate::filters::rounding_of;
+use crate::filters::step_at;
+use crate::filters::step_count;
+use lines::sums::lift_line;
+use lines::sums::sum_taps;
 
 // Where the picture of a level stands in a plane: how far apart its rows are, and the size of its bands, which is half its own.
 pub struct Frame {
@@ -25,7 +29,12 @@ pub struct Frame {
 
 // Runs the steps of a filter on every column of the picture. False where a new number is outside 32 bits; then the plane's numbers are of
 // no use.
-pub fn filter_columns(work: &mut [i32], sums: &mut [i64; 4096], frame: Frame, wavelet: usize) -> bool
+pub fn filter_columns(
+    work: &mut [i32],
+    sums: &mut [i64; 4096],
+    frame: Frame,
+    wavelet: usize,
+) -> bool
     requires { ⌜ Placed frame (now work) × (wavelet ≤ 6) ⌝ }
     ensures told { λ r. ⌜ r ≡ allNewFit (2 * frame .«band_rows») (2 * frame .«band_columns») (map columns (filterOf wavelet .steps)) (pictureOf (frame .stride) (now (work .entry))) ⌝ }
     ensures done { λ r. ⌜ (r ≡ true → Agree (2 * frame .«band_rows») (2 * frame .«band_columns») (pictureOf (frame .stride) (now (work .exit))) (runAll (2 * frame .«band_rows») (2 * frame .«band_columns») (map columns (filterOf wavelet .steps)) (pictureOf (frame .stride) (now (work .entry))))) ⌝ }
@@ -60,7 +69,13 @@ fn lift_columns(work: &mut [i32], sums: &mut [i64; 4096], frame: Frame, step: Li
 }
 
 // Runs one step on one element of every column: the row of pair k that the step changes.
-fn lift_row(work: &mut [i32], sums: &mut [i64; 4096], frame: Frame, k: usize, step: LiftingStep) -> bool
+fn lift_row(
+    work: &mut [i32],
+    sums: &mut [i64; 4096],
+    frame: Frame,
+    k: usize,
+    step: LiftingStep,
+) -> bool
     requires { ⌜ Placed frame (now work) × Sane step × (k < frame .«band_rows») ⌝ }
     ensures told { λ r. ⌜ r ≡ allBelow (2 * frame .«band_columns») (λ c. fits32 (lift (stepOf step) (2 * frame .«band_rows») (λ r. pictureOf (frame .stride) (now (work .entry)) r c) (targetRow (step .even) k))) ⌝ }
     ensures done { λ r. ⌜ (r ≡ true → now (work .exit) ≡ fill (now (work .entry)) (targetRow (step .even) k * frame .stride) (2 * frame .«band_columns») (λ c. lift (stepOf step) (2 * frame .«band_rows») (λ r. pictureOf (frame .stride) (now (work .entry)) r c) (targetRow (step .even) k))) ⌝ }
@@ -94,7 +109,7 @@ fn source_row(even: bool, pairs: usize, s: usize) -> usize
 
 // Where the rows that eight taps read start in the plane, the first tap's being s.
 fn row_places(frame: Frame, even: bool, s: usize) -> [usize; 8]
-    requires { ⌜ (1 ≤ frame .«band_rows») × (frame .«band_rows» ≤ 2048) × (frame .stride ≤ 65536) × (s ≤ 4096) ⌝ }
+    requires { ⌜ (1 ≤ frame .«band_rows») × (frame .«band_rows» ≤ 2048) × (2 * frame .«band_rows» * frame .stride < 2 ^ 64) × (s ≤ 4096) ⌝ }
     ensures { λ r. ⌜ ((t : ℕ) → t < 8 → getD r t 0 ≡ sourceRow even (frame .«band_rows») (s + t) * frame .stride) ⌝ }
 {
     let pairs = frame.band_rows;

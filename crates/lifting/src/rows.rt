@@ -18,10 +18,16 @@ ghost use Rattle.lifting.specs.Planes.{pictureOf};
 ghost use Rattle.lifting.specs.Table.{stepOf, Sane};
 ghost use Rattle.lifting.specs.Layout.{Agree, Placed, halfPlace, halvesOf};
 use crate::columns::Frame;
-use crate::filters::{has_shift, rounding_of, step_at, step_count, LiftingStep};
+use crate::filters::LiftingStep;
+use crate::filters::has_shift;
+use crate::filters::rounding_of;
+use crate::filters::step_at;
+use crate::filters::step_count;
 use base::plane;
-use lines::buffers::{extend, weave};
-use lines::sums::{lift_line, sum_taps};
+use lines::buffers::extend;
+use lines::buffers::weave;
+use lines::sums::lift_line;
+use lines::sums::sum_taps;
 
 // Runs the steps of a filter, and its shift, on every row of a picture whose rows stand as two halves; they are woven in the end. False where
 // a new number of a step is outside 32 bits; then the plane's numbers are of no use.
@@ -64,6 +70,7 @@ fn filter_row(
     requires { ⌜ (1 ≤ half) × (half ≤ 2048) × (place + 2 * half ≤ length (now work)) × (wavelet ≤ 6) ⌝ }
     ensures told { λ r. ⌜ r ≡ allNewFit 1 (2 * half) (map rows (filterOf wavelet .steps)) (λ row x. getD (now (work .entry)) (place + halfPlace half x) (pos 0)) ⌝ }
     ensures done { λ r. ⌜ (r ≡ true → now (work .exit) ≡ fill (now (work .entry)) place (2 * half) (λ x. shifted (filterOf wavelet .shift) (runAll 1 (2 * half) (map rows (filterOf wavelet .steps)) (λ row k. getD (now (work .entry)) (place + halfPlace half k) (pos 0)) 0 x))) ⌝ }
+    ensures fit { λ r. ⌜ (r ≡ true → (x : ℕ) → x < 2 * half → fits32 (shifted (filterOf wavelet .shift) (runAll 1 (2 * half) (map rows (filterOf wavelet .steps)) (λ row k. getD (now (work .entry)) (place + halfPlace half k) (pos 0)) 0 x)) ≡ true) ⌝ }
 {
     plane::copy(low, 4, work, place, half);
     plane::copy(high, 4, work, place + half, half);
@@ -127,7 +134,7 @@ fn lift_half(
 ) -> bool
     requires { ⌜ (1 ≤ half) × (half ≤ 2048) × Sane step ⌝ }
     ensures told { λ r. ⌜ r ≡ allBelow half (λ k. fits32 (changed (step .adds) (step .scale) (getD (now (target .entry)) (4 + k) (pos 0)) (rounding (step .scale) +ℤ sumBelow (λ t. getD (step .taps) t (pos 0) *ℤ getD (now (source .entry)) (heldEntry half (step .lead + t + k)) (pos 0)) (step .count)))) ⌝ }
-    ensures done { λ r. ⌜ (r ≡ true → now (target .exit) ≡ fill (now (target .entry)) 4 half (λ k. changed (step .adds) (step .scale) (getD (now (target .entry)) (4 + k) (pos 0)) (rounding (step .scale) +ℤ sumBelow (λ t. getD (step .taps) t (pos 0) *ℤ getD (now (source .entry)) (heldEntry half (step .lead + t + k)) (pos 0)) (step .count)))) ⌝ }
+    ensures done { λ r. ⌜ (r ≡ true → (k : ℕ) → k < half → getD (now (target .exit)) (4 + k) (pos 0) ≡ changed (step .adds) (step .scale) (getD (now (target .entry)) (4 + k) (pos 0)) (rounding (step .scale) +ℤ sumBelow (λ t. getD (step .taps) t (pos 0) *ℤ getD (now (source .entry)) (heldEntry half (step .lead + t + k)) (pos 0)) (step .count))) ⌝ }
     ensures kept { λ _. ⌜ ((k : ℕ) → k < half → getD (now (source .exit)) (4 + k) (pos 0) ≡ getD (now (source .entry)) (4 + k) (pos 0)) ⌝ }
 {
     extend(source, half);
@@ -140,7 +147,7 @@ fn lift_half(
 
 // Where eight taps start in a line buffer, the first one at the lead.
 fn line_places(lead: usize) -> [usize; 8]
-    requires { ⌜ lead ≤ 8 ⌝ }
+    requires { ⌜ lead ≤ 9 ⌝ }
     ensures { λ r. ⌜ ((t : ℕ) → t < 8 → getD r t 0 ≡ lead + t) ⌝ }
 {
     let mut places = [0usize; 8];

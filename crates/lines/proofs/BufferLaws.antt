@@ -1,9 +1,9 @@
 -- Laws of line buffers: the ends of a half repeated, the entries of a woven row, and a number halved with the half rounded up.
 -- Assumes nothing.
-use mathlib.Core.Path.{_≡_, refl, ap, _∙_}
+use mathlib.Core.Path.{_≡_, refl, sym, ap, _∙_, subst}
 use mathlib.Core.List.{List}
 use Prim.Native.Nat.{ℕ, zero, suc, _+_, _-_, _*_, _/_, _%_, _≤_, _<_, min}
-use native.Mathlib.Decide.{decLt}
+use native.Mathlib.Decide.{decLt, ℕ-discrete}
 use native.Mathlib.Omega.{arith}
 use borrow.Author.Tests.{lt-ltb, le-ltb, eq-eqb, ne-eqb}
 use lib.IntN.{ℤ, pos, negsuc, _+ℤ_, _-ℤ_}
@@ -89,3 +89,17 @@ pub fill-two : (l : List ℤ) (d : ℕ) (f : ℕ → ℤ) (x i j : ℕ) → i �
 fill-two l d f x i j at₁ at₂ =
     let two : 2 * (x + 1) ≡ 2 * x + 1 + 1 = omega arith in
     rw (fill-more l d f (2 * x) i at₁, two) (fill-more l d f (2 * x + 1) j (omega arith))
+
+-- what holds of the places passed, and of two more
+pub two-more : (P : ℕ → Type 0) (x : ℕ) → ((k : ℕ) → k < 2 * x → P k) → P (2 * x) → P (2 * x + 1) → (k : ℕ) → k < 2 * (x + 1) → P k
+two-more P x before even odd k below =
+    elim (decLt k (2 * x)) [
+      | yes earlier ↦ before k earlier
+      | no later ↦
+          elim (ℕ-discrete k (2 * x)) [
+            | yes here ↦ subst P (sym here) even
+            | no other ↦
+                let next : 2 * x + 1 ≡ k = omega arith in
+                subst P next odd
+          ]
+    ]

@@ -1,9 +1,11 @@
 // Line buffers that hold the two halves of a row, low and high, from entry 4 on.
 ghost use mathlib.Core.Path.{_≡_};
+ghost use mathlib.Core.Bool.{true};
 ghost use Prim.Native.Nat.{ℕ, _+_, _*_, _≤_, _<_};
 ghost use lib.IntN.{pos};
 ghost use lib.ListN.{length, getD};
 ghost use Rattle.base.specs.Fill.{fill};
+ghost use Rattle.base.specs.Range.{fits32};
 ghost use Rattle.lines.specs.Buffers.{heldEntry, woven, shifted};
 
 // Repeats the first and the last entry of a half four times on either side of it.
@@ -33,7 +35,8 @@ pub fn weave(
     shift: bool,
 )
     requires { ⌜ (half ≤ 2048) × (place + 2 * half ≤ length (now plane)) ⌝ }
-    ensures { λ _. ⌜ now (plane .exit) ≡ fill (now (plane .entry)) place (2 * half) (λ x. shifted shift (woven (now (low .entry)) (now (high .entry)) x)) ⌝ }
+    ensures stored { λ _. ⌜ now (plane .exit) ≡ fill (now (plane .entry)) place (2 * half) (λ x. shifted shift (woven (now (low .entry)) (now (high .entry)) x)) ⌝ }
+    ensures fit { λ _. ⌜ ((x : ℕ) → x < 2 * half → fits32 (shifted shift (woven (now (low .entry)) (now (high .entry)) x)) ≡ true) ⌝ }
 {
     let mut x = 0;
     while x < half {

@@ -61,33 +61,33 @@ module _ (work₀ coefficients : List ℤ) (pw rows columns stride : ℕ) (apart
     turned-more =
         record {
           upper = λ r c h i.
-            odd-kept (2 * r) (columns + c) (omega arith) (omega arith)
-            ∙ elim (decLt r k) [
-              yes earlier ↦ even-kept (2 * r) (columns + c) (omega arith) (omega arith) ∙ before .upper r c earlier i
-            | no last ↦
-                let here : k ≡ r = omega arith in
-                subst (λ (q : ℕ). getD first (2 * q * stride + (columns + c)) (pos 0) ≡ getD coefficients (q * pw + columns + c) (pos 0)) here
-                (row-filled work stride (2 * k) columns columns (2 * k * stride + columns) refl upperRow (pos 0) c i even-room)
-            ];
+              odd-kept (2 * r) (columns + c) (omega arith) (omega arith)
+              ∙ elim (decLt r k) [
+                | yes earlier ↦ even-kept (2 * r) (columns + c) (omega arith) (omega arith) ∙ before .upper r c earlier i
+                | no last ↦
+                    let here : k ≡ r = omega arith in
+                    subst (λ (q : ℕ). getD first (2 * q * stride + (columns + c)) (pos 0) ≡ getD coefficients (q * pw + columns + c) (pos 0)) here
+                    (row-filled work stride (2 * k) columns columns (2 * k * stride + columns) refl upperRow (pos 0) c i even-room)
+              ];
           lower = λ r c h i.
-            elim (decLt r k) [
-              yes earlier ↦
-                odd-kept (2 * r + 1) c (omega arith) (omega arith) ∙ even-kept (2 * r + 1) c (omega arith) (omega arith) ∙ before .lower r c earlier i
-            | no last ↦
-                let here : k ≡ r = omega arith in
-                let longer : length first ≡ length work = length-fill work (2 * k * stride + columns) upperRow columns in
-                subst (λ (q : ℕ). getD second ((2 * q + 1) * stride + c) (pos 0) ≡ getD coefficients ((rows + q) * pw + c) (pos 0)) here
-                (getD-fill-in first ((2 * k + 1) * stride) lowerRow (2 * columns) c (pos 0) i (omega arith))
-            ];
+              elim (decLt r k) [
+                | yes earlier ↦
+                    odd-kept (2 * r + 1) c (omega arith) (omega arith) ∙ even-kept (2 * r + 1) c (omega arith) (omega arith) ∙ before .lower r c earlier i
+                | no last ↦
+                    let here : k ≡ r = omega arith in
+                    let longer : length first ≡ length work = length-fill work (2 * k * stride + columns) upperRow columns in
+                    subst (λ (q : ℕ). getD second ((2 * q + 1) * stride + c) (pos 0) ≡ getD coefficients ((rows + q) * pw + c) (pos 0)) here
+                    (getD-fill-in first ((2 * k + 1) * stride) lowerRow (2 * columns) c (pos 0) i (omega arith))
+              ];
           kept = λ r c i.
-            odd-kept (2 * r) c (omega arith) (omega arith)
-            ∙ elim (ℕ-discrete r k) [
-              yes here ↦
-                subst (λ (q : ℕ). getD first (2 * q * stride + c) (pos 0) ≡ getD work (2 * q * stride + c) (pos 0)) (sym here)
-                (columns-before-kept work stride (2 * k) columns columns (2 * k * stride + columns) refl upperRow (pos 0) c i)
-            | no other ↦ even-kept (2 * r) c (omega arith) (omega arith)
-            ]
-            ∙ before .kept r c i
+              odd-kept (2 * r) c (omega arith) (omega arith)
+              ∙ elim (ℕ-discrete r k) [
+                | yes here ↦
+                    subst (λ (q : ℕ). getD first (2 * q * stride + c) (pos 0) ≡ getD work (2 * q * stride + c) (pos 0)) (sym here)
+                    (columns-before-kept work stride (2 * k) columns columns (2 * k * stride + columns) refl upperRow (pos 0) c i)
+                | no other ↦ even-kept (2 * r) c (omega arith) (omega arith)
+              ]
+              ∙ before .kept r c i;
         }
 
   -- after all turns the plane holds the interleaved picture, each row as two halves
@@ -96,31 +96,31 @@ module _ (work₀ coefficients : List ℤ) (pw rows columns stride : ℕ) (apart
   unfolding halvesOf halfPlace interleave pictureOf
   turned-all work all row x below inside =
       elim (ℕ-discrete (row % 2) 0) [
-        yes even ↦
-          let whole : row ≡ 2 * (row / 2) = omega arith in
-          let double : row / 2 * (2 * stride) ≡ 2 * (row / 2) * stride =
-                sym (mul-assoc (row / 2) 2 stride) ∙ ap (λ (q : ℕ). q * stride) (mul-comm (row / 2) 2) in
-          elim (ℕ-discrete (x % 2) 0) [
-            yes low ↦
-              rw (eq-eqb (row % 2) 0 even, eq-eqb (x % 2) 0 low, double)
-              (subst (λ (q : ℕ). getD work (q * stride + x / 2) (pos 0) ≡ getD work₀ (2 * (row / 2) * stride + x / 2) (pos 0)) (sym whole)
-              (all .kept (row / 2) (x / 2) (omega arith)))
-          | no high ↦
-              let flat : row / 2 * pw + (columns + x / 2) ≡ row / 2 * pw + columns + x / 2 = omega arith in
-              rw (eq-eqb (row % 2) 0 even, ne-eqb (x % 2) 0 high, flat)
-              (subst (λ (q : ℕ). getD work (q * stride + (columns + x / 2)) (pos 0) ≡ getD coefficients (row / 2 * pw + columns + x / 2) (pos 0)) (sym whole)
-              (all .upper (row / 2) (x / 2) (omega arith) (omega arith)))
-          ]
-      | no odd ↦
-          let whole : row ≡ 2 * (row / 2) + 1 = omega arith in
-          elim (ℕ-discrete (x % 2) 0) [
-            yes low ↦
-              rw (ne-eqb (row % 2) 0 odd, eq-eqb (x % 2) 0 low)
-              (subst (λ (q : ℕ). getD work (q * stride + x / 2) (pos 0) ≡ getD coefficients ((rows + row / 2) * pw + x / 2) (pos 0)) (sym whole)
-              (all .lower (row / 2) (x / 2) (omega arith) (omega arith)))
-          | no high ↦
-              rw (ne-eqb (row % 2) 0 odd, ne-eqb (x % 2) 0 high)
-              (subst (λ (q : ℕ). getD work (q * stride + (columns + x / 2)) (pos 0) ≡ getD coefficients ((rows + row / 2) * pw + (columns + x / 2)) (pos 0)) (sym whole)
-              (all .lower (row / 2) (columns + x / 2) (omega arith) (omega arith)))
-          ]
+        | yes even ↦
+            let whole : row ≡ 2 * (row / 2) = omega arith in
+            let double : row / 2 * (2 * stride) ≡ 2 * (row / 2) * stride =
+            sym (mul-assoc (row / 2) 2 stride) ∙ ap (λ (q : ℕ). q * stride) (mul-comm (row / 2) 2) in
+            elim (ℕ-discrete (x % 2) 0) [
+              | yes low ↦
+                  rw (eq-eqb (row % 2) 0 even, eq-eqb (x % 2) 0 low, double)
+                  (subst (λ (q : ℕ). getD work (q * stride + x / 2) (pos 0) ≡ getD work₀ (2 * (row / 2) * stride + x / 2) (pos 0)) (sym whole)
+                  (all .kept (row / 2) (x / 2) (omega arith)))
+              | no high ↦
+                  let flat : row / 2 * pw + (columns + x / 2) ≡ row / 2 * pw + columns + x / 2 = omega arith in
+                  rw (eq-eqb (row % 2) 0 even, ne-eqb (x % 2) 0 high, flat)
+                  (subst (λ (q : ℕ). getD work (q * stride + (columns + x / 2)) (pos 0) ≡ getD coefficients (row / 2 * pw + columns + x / 2) (pos 0)) (sym whole)
+                  (all .upper (row / 2) (x / 2) (omega arith) (omega arith)))
+            ]
+        | no odd ↦
+            let whole : row ≡ 2 * (row / 2) + 1 = omega arith in
+            elim (ℕ-discrete (x % 2) 0) [
+              | yes low ↦
+                  rw (ne-eqb (row % 2) 0 odd, eq-eqb (x % 2) 0 low)
+                  (subst (λ (q : ℕ). getD work (q * stride + x / 2) (pos 0) ≡ getD coefficients ((rows + row / 2) * pw + x / 2) (pos 0)) (sym whole)
+                  (all .lower (row / 2) (x / 2) (omega arith) (omega arith)))
+              | no high ↦
+                  rw (ne-eqb (row % 2) 0 odd, ne-eqb (x % 2) 0 high)
+                  (subst (λ (q : ℕ). getD work (q * stride + (columns + x / 2)) (pos 0) ≡ getD coefficients ((rows + row / 2) * pw + (columns + x / 2)) (pos 0)) (sym whole)
+                  (all .lower (row / 2) (columns + x / 2) (omega arith) (omega arith)))
+            ]
       ]

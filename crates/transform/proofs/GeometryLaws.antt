@@ -85,7 +85,7 @@ module _ (e : Extent) (area : ℕ) (g : Geometry e area) (m : ℕ) (deep : suc m
         columns-least = rw columns (sizeAt-least (e .«low_columns») m (g .columns-least));
         columns-most = rw columns (omega (arith, next-columns, g .width-most));
         apart = rw (columns, stride) (omega (arith, next-columns, stride-wide));
-        inside = rw (rows, stride, long) (omega (arith, stride-rows))
+        inside = rw (rows, stride, long) (omega (arith, stride-rows));
       }
 
   -- the picture below stands twice as far apart
@@ -106,5 +106,5 @@ geometry-of p sizes depth area is =
       width = sym (sizeAt-padded (p .depth) (p .width));
       width-most = padded-most (p .depth) deep (p .width) (width-most p sizes);
       height-most = rw (sizeAt-padded (p .depth) (p .height)) (padded-most (p .depth) deep (p .height) (height-most p sizes));
-      whole = rw (sizeAt-padded (p .depth) (p .height)) (mul-comm (paddedSize (p .depth) (p .height)) (paddedSize (p .depth) (p .width)) ∙ sym is)
+      whole = rw (sizeAt-padded (p .depth) (p .height)) (mul-comm (paddedSize (p .depth) (p .height)) (paddedSize (p .depth) (p .width)) ∙ sym is);
     }

@@ -117,7 +117,7 @@ fitted p l e =
     record {
       coefficients-fit = eqb-true _ _ (and-left _ _ e);
       work-fits = eqb-true _ _ (and-left _ _ rest);
-      samples-fit = eqb-true _ _ (and-right (eqb (l .work) (areaOf p)) _ rest)
+      samples-fit = eqb-true _ _ (and-right (eqb (l .work) (areaOf p)) _ rest);
     }
 
 -- the three ways that the job ends

@@ -17,6 +17,8 @@ use Rattle.lifting.specs.Filters.{Filter}
 use Rattle.lifting.specs.Passes.{Picture, Pass, columns, rows, halve, run, runAll, assigns, newFit, allNewFit}
 use Rattle.lifting.specs.Layout.{Agree, halfPlace}
 use Rattle.lifting.proofs.Lifts.{EvenLength}
+use Rattle.lifting.proofs.PairLaws.{twice-length}
+use Rattle.lifting.proofs.HalfLaws.{half-inside}
 use Rattle.lifting.proofs.PassLaws.{AllFit, new-each, new-all, runAll-append, allNewFit-append, runAll-same, allNewFit-same}
 use Rattle.transform.specs.Synthesis.{synthesisPasses}
 
@@ -24,31 +26,18 @@ use Rattle.transform.specs.Synthesis.{synthesisPasses}
 unhalved : ℕ → ℕ → ℕ
 unhalved b c = cond (ltb c b) (2 * c) (2 * (c - b) + 1)
 
--- twice a size that is not 0
-pub even-length : (b : ℕ) → 1 ≤ b → EvenLength (2 * b)
-even-length b some = record { even = omega arith; some = omega arith }
-
 module _ (b : ℕ) where
-  -- the places of columns lie in the row
-  half-inside : (x : ℕ) → x < 2 * b → halfPlace b x < 2 * b
-  unfolding halfPlace
-  half-inside x inside =
-      elim (ℕ-discrete (x % 2) 0) [
-        yes even ↦ rw (eq-eqb (x % 2) 0 even) (omega arith)
-      | no odd ↦ rw (ne-eqb (x % 2) 0 odd) (omega arith)
-      ]
-
-  -- and each place is that of one column
+  -- each place of a row of halves is that of one column
   half-reached : (c : ℕ) → c < 2 * b → (unhalved b c < 2 * b) × (halfPlace b (unhalved b c) ≡ c)
   unfolding halfPlace unhalved
   half-reached c inside =
       elim (decLt c b) [
-        yes low ↦
-          let even : 2 * c % 2 ≡ 0 = omega arith in
-          rw (lt-ltb c b low, eq-eqb (2 * c % 2) 0 even) (omega arith, omega arith)
-      | no high ↦
-          let odd : (2 * (c - b) + 1) % 2 ≡ 0 → ⊥ = λ e. omega arith in
-          rw (le-ltb c b (omega arith), ne-eqb ((2 * (c - b) + 1) % 2) 0 odd) (omega arith, omega arith)
+        | yes low ↦
+            let even : 2 * c % 2 ≡ 0 = omega arith in
+            rw (lt-ltb c b low, eq-eqb (2 * c % 2) 0 even) (omega arith, omega arith)
+        | no high ↦
+            let odd : (2 * (c - b) + 1) % 2 ≡ 0 → ⊥ = λ e. omega arith in
+            rw (le-ltb c b (omega arith), ne-eqb ((2 * (c - b) + 1) % 2) 0 odd) (omega arith, omega arith)
       ]
 
   -- A picture whose rows stand as two halves.
@@ -67,11 +56,11 @@ module _ (b : ℕ) where
   new-halved h s S =
       same-test (newFit h (2 * b) (columns s) (halved S)) (newFit h (2 * b) (columns s) S)
       (λ e. new-all h (2 * b) (columns s) S
-        (λ row c r i assigned.
-          let there = half-reached c i in
-          subst (λ (k : ℕ). fits32 (S row k) ≡ true) (there .1) (new-each h (2 * b) (columns s) (halved S) e row (unhalved b c) r (there .0) assigned)))
+      (λ row c r i assigned.
+      let there = half-reached c i in
+      subst (λ (k : ℕ). fits32 (S row k) ≡ true) (there .1) (new-each h (2 * b) (columns s) (halved S) e row (unhalved b c) r (there .0) assigned)))
       (λ e. new-all h (2 * b) (columns s) (halved S)
-        (λ row x r i assigned. new-each h (2 * b) (columns s) S e row (halfPlace b x) r (half-inside x i) assigned))
+      (λ row x r i assigned. new-each h (2 * b) (columns s) S e row (halfPlace b x) r (half-inside b x i) assigned))
 
   all-new-halved : (h : ℕ) (steps : List Step) (S : Picture) → allNewFit h (2 * b) (map columns steps) (halved S) ≡ allNewFit h (2 * b) (map columns steps) S
   unfolding allNewFit run
@@ -123,18 +112,18 @@ module _ (f : Filter) (bh b : ℕ) (tall : 1 ≤ bh) (wide : 1 ≤ b) (I : Pictu
   -- S is the level's interleaved picture, as it stands in the plane
   module _ (S : Picture) (same : Agree h w (halved b S) I) where
     abbrev evenH : EvenLength h
-    evenH = even-length bh tall
+    evenH = twice-length bh tall
 
     abbrev evenW : EvenLength w
-    evenW = even-length b wide
+    evenW = twice-length b wide
 
     -- the test of the columns
     columns-told : allNewFit h w byColumns S ≡ allNewFit h w byColumns I
     columns-told =
         sym (all-new-halved b h (f .steps) S)
         ∙ same-test (allNewFit h w byColumns (halved b S)) (allNewFit h w byColumns I)
-          (allNewFit-same h w evenH evenW byColumns (halved b S) I same)
-          (allNewFit-same h w evenH evenW byColumns I (halved b S) (λ row x r i. sym (same row x r i)))
+        (allNewFit-same h w evenH evenW byColumns (halved b S) I same)
+        (allNewFit-same h w evenH evenW byColumns I (halved b S) (λ row x r i. sym (same row x r i)))
 
     -- where it fails, the level's fails
     pub level-fails : allNewFit h w byColumns S ≡ false → false ≡ allNewFit h w (synthesisPasses f) I
@@ -167,8 +156,8 @@ module _ (f : Filter) (bh b : ℕ) (tall : 1 ≤ bh) (wide : 1 ≤ b) (I : Pictu
       rows-decide fit true e =
           shift-fits h w (f .shift) (runAll h w byRows filtered)
           (λ row x r i.
-            subst (λ (v : ℤ). fits32 (shifted (f .shift) v) ≡ true) (runAll-same h w evenH evenW byRows (halved b T) filtered columns-done row x r i)
-            (fit (rows-told ∙ e) row x r i))
+          subst (λ (v : ℤ). fits32 (shifted (f .shift) v) ≡ true) (runAll-same h w evenH evenW byRows (halved b T) filtered columns-done row x r i)
+          (fit (rows-told ∙ e) row x r i))
       rows-decide fit false e = refl
 
       pub level-told : (allNewFit h w byRows (halved b T) ≡ true → AllFit h w shiftedRows) → allNewFit h w byRows (halved b T) ≡ allNewFit h w (synthesisPasses f) I

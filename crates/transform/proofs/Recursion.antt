@@ -13,9 +13,9 @@ use Rattle.component.proofs.SizeLaws.{sizeAt-least}
 use Rattle.lifting.specs.Filters.{Filter}
 use Rattle.lifting.specs.Layout.{Agree}
 use Rattle.lifting.specs.Passes.{Picture, runAll, allNewFit}
+use Rattle.lifting.proofs.PairLaws.{twice-length}
 use Rattle.lifting.proofs.PassLaws.{runAll-same, allNewFit-same}
 use Rattle.transform.specs.Synthesis.{synthesisPasses, interleave, synthesis, levelFits, firstBadLevel}
-use Rattle.transform.proofs.LevelSteps.{even-length}
 
 -- interleaving pictures that agree
 interleave-same : (bh bw : ℕ) (low low′ coefficients : Picture) → Agree bh bw low low′ →
@@ -52,8 +52,8 @@ module _ (f : Filter) (h w : ℕ) (tall : 1 ≤ h) (wide : 1 ≤ w) (coefficient
     pub level-fits : allNewFit (sizeAt h (suc n)) (sizeAt w (suc n)) (synthesisPasses f) here ≡ levelFits f h w coefficients n
     unfolding levelFits sizeAt
     level-fits =
-        let evenH = even-length (sizeAt h n) (sizeAt-least h n tall) in
-        let evenW = even-length (sizeAt w n) (sizeAt-least w n wide) in
+        let evenH = twice-length (sizeAt h n) (sizeAt-least h n tall) in
+        let evenW = twice-length (sizeAt w n) (sizeAt-least w n wide) in
         same-test _ _
         (allNewFit-same (2 * sizeAt h n) (2 * sizeAt w n) evenH evenW (synthesisPasses f) here there both)
         (allNewFit-same (2 * sizeAt h n) (2 * sizeAt w n) evenH evenW (synthesisPasses f) there here (λ row x r c. sym (both row x r c)))
@@ -62,6 +62,6 @@ module _ (f : Filter) (h w : ℕ) (tall : 1 ≤ h) (wide : 1 ≤ w) (coefficient
         Agree (sizeAt h (suc n)) (sizeAt w (suc n)) Q (synthesis f h w coefficients (suc n))
     unfolding synthesis sizeAt
     level-picture Q done row x r c =
-        let evenH = even-length (sizeAt h n) (sizeAt-least h n tall) in
-        let evenW = even-length (sizeAt w n) (sizeAt-least w n wide) in
+        let evenH = twice-length (sizeAt h n) (sizeAt-least h n tall) in
+        let evenW = twice-length (sizeAt w n) (sizeAt-least w n wide) in
         done row x r c ∙ runAll-same (2 * sizeAt h n) (2 * sizeAt w n) evenH evenW (synthesisPasses f) here there both row x r c

@@ -31,7 +31,14 @@ pub fn interleave_bands(work: &mut [i32], coefficients: &[i32], padded_width: us
 }
 
 // Copies the first rows and columns of one picture to another.
-pub fn copy_rows(to: &mut [i32], to_stride: usize, from: &[i32], from_stride: usize, rows: usize, columns: usize)
+pub fn copy_rows(
+    to: &mut [i32],
+    to_stride: usize,
+    from: &[i32],
+    from_stride: usize,
+    rows: usize,
+    columns: usize,
+)
     requires { ⌜ (columns ≤ «to_stride») × (rows * «to_stride» ≤ length (now to)) ⌝ }
     requires { ⌜ (columns ≤ «from_stride») × (rows * «from_stride» ≤ length (now from)) ⌝ }
     ensures { λ _. ⌜ Agree rows columns (pictureOf «to_stride» (now (to .exit))) (pictureOf «from_stride» (now (from .entry))) ⌝ }

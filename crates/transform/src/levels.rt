@@ -10,8 +10,10 @@ ghost use Rattle.lifting.specs.Planes.{pictureOf};
 ghost use Rattle.lifting.specs.Layout.{Agree, Placed};
 ghost use Rattle.transform.specs.Synthesis.{synthesisPasses, interleave, synthesis, firstBadLevel};
 ghost use Rattle.transform.specs.Geometry.{Geometry};
-use crate::bands::{copy_rows, interleave_bands};
-use lifting::columns::{filter_columns, Frame};
+use crate::bands::copy_rows;
+use crate::bands::interleave_bands;
+use lifting::columns::Frame;
+use lifting::columns::filter_columns;
 use lifting::rows::filter_rows;
 
 // The padded width of a component, the size of its low band, and its depth.
@@ -61,7 +63,14 @@ fn copy_low_band(work: &mut [i32], coefficients: &[i32], extent: Extent)
 {
     let width = extent.padded_width;
     let stride = width << extent.depth;
-    copy_rows(work, stride, coefficients, width, extent.low_rows, extent.low_columns);
+    copy_rows(
+        work,
+        stride,
+        coefficients,
+        width,
+        extent.low_rows,
+        extent.low_columns,
+    );
 }
 
 // Builds the picture of the next level on the one that stands in the work plane: interleaves its bands, filters every column, then every

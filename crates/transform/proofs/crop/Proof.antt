@@ -35,10 +35,13 @@ copy-rows-requires c κs =
     let start = c .before .before .before .before .before in
     let p = start .args .p in
     let covered = mul-le-mul-right (paddedSize (p .depth) (p .width)) (padded-least (p .depth) (p .height)) in
-    let turned = mul-comm (paddedSize (p .depth) (p .height)) (paddedSize (p .depth) (p .width)) in
-    ((omega arith, omega (arith, start .pre .3, mul-comm (p .height) (p .width))),
-      (rw (c .before .padded-size .ensures) (padded-least (p .depth) (p .width)),
-        rw (c .before .padded-size .ensures) (omega (arith, covered, turned, start .pre .2))))
+    let turned = mul-comm (paddedSize (p .depth) (p .height)) (paddedSize (p .depth) (p .width)) in (
+      (omega arith, omega (arith, start .pre .3, mul-comm (p .height) (p .width))),
+      (
+        rw (c .before .padded-size .ensures) (padded-least (p .depth) (p .width)),
+        rw (c .before .padded-size .ensures) (omega (arith, covered, turned, start .pre .2)),
+      ),
+    )
 
 same-length : tie.Need-same-length
 same-length c = c .before .copy-rows .kept .0
@@ -50,8 +53,8 @@ returns c =
     let copied = rw (c .before .before .before .padded-size .ensures) at (c .before .copy-rows .ensures) in
     sym
     (raster-is (p .height) (p .width) (pictureOf (paddedSize (p .depth) (p .width)) (start .args .work .now)) (c .before .copy-rows .last .0)
-      (width-least p (start .pre .0)) (c .before .copy-rows .kept .0 ∙ start .pre .3 ∙ mul-comm (p .width) (p .height))
-      (λ row column r i. sym (copied row column r i)))
+    (width-least p (start .pre .0)) (c .before .copy-rows .kept .0 ∙ start .pre .3 ∙ mul-comm (p .width) (p .height))
+    (λ row column r i. sym (copied row column r i)))
 
 pub crop-spec : {M : Type 1} → statement M
 crop-spec =

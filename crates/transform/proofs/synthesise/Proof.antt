@@ -92,8 +92,8 @@ returns-3 c =
     let picture = c .before .before .before .before .before .before .before .before .before .synthesise-picture in
     let fine = c .before .before .before .before .before .before .before .if2 .left in
     let cropped =
-          raster-same (p .height) (p .width) (pictureOf (paddedWidth p) (picture .last .1 .1 .0)) (pictureFrom p (now (start .args .coefficients))) (width-least p (checks checked .0))
-          (λ row column r i. picture .ensures .1 fine row column (omega (arith, padded-least (p .depth) (p .height))) (omega (arith, padded-least (p .depth) (p .width)))) in
+    raster-same (p .height) (p .width) (pictureOf (paddedWidth p) (picture .last .1 .1 .0)) (pictureFrom p (now (start .args .coefficients))) (width-least p (checks checked .0))
+    (λ row column r i. picture .ensures .1 fine row column (omega (arith, padded-least (p .depth) (p .height))) (omega (arith, padded-least (p .depth) (p .width)))) in
     rw (c .before .zero3 .ensures, c .before .before .before .before .crop .ensures, zeros-length (picture .last .1 .1 .0) (now (start .args .work)) (picture .kept .1 .1 .0), cropped)
     (sym (job-accepted p _ _ _ (none checked) (sym (picture .ensures .0) ∙ fine)))
 

@@ -30,10 +30,13 @@ cast-synthesise-levels c = search needs
 synthesise-levels-requires : tie.Need-synthesise-levels-requires
 synthesise-levels-requires c κs =
     let start = c .before .before .before .before .before .before in
-    let p = start .args .p in
-    (subst (λ (e : Extent). Geometry e (length (now (start .args .work)))) (sym (c .before .before .before .before .before .extent-of .ensures))
-      (geometry-of p (start .pre .0 .0) (start .pre .0 .1) _ (start .pre .1 .1)),
-      start .pre .1 .0 ∙ sym (start .pre .1 .1), wavelet-most p (start .pre .0 .2), omega arith)
+    let p = start .args .p in (
+      subst (λ (e : Extent). Geometry e (length (now (start .args .work)))) (sym (c .before .before .before .before .before .extent-of .ensures))
+          (geometry-of p (start .pre .0 .0) (start .pre .0 .1) _ (start .pre .1 .1)),
+      start .pre .1 .0 ∙ sym (start .pre .1 .1),
+      wavelet-most p (start .pre .0 .2),
+      omega arith,
+    )
 
 same-length : tie.Need-same-length
 same-length c = search needs
@@ -50,16 +53,17 @@ returns c =
     let start = c .before .before .before .before .before .before .before .before in
     let p = start .args .p in
     let is = c .before .before .before .before .before .before .before .extent-of .ensures in
-    let levels = c .before .synthesise-levels in
-    (subst
-      (λ (e : Extent). levels .result ≡ firstBadLevel (filterOf (p .wavelet)) (e .«low_rows») (e .«low_columns») (pictureOf (e .«padded_width») (now (start .args .coefficients))) (e .depth))
-      is (levels .ensures .0),
+    let levels = c .before .synthesise-levels in (
+      subst
+          (λ (e : Extent). levels .result ≡ firstBadLevel (filterOf (p .wavelet)) (e .«low_rows») (e .«low_columns») (pictureOf (e .«padded_width») (now (start .args .coefficients))) (e .depth))
+          is (levels .ensures .0),
       λ none.
-        rw (sizeAt-padded (p .depth) (p .height), sizeAt-padded (p .depth) (p .width), last-stride (paddedWidth p) (p .depth)) at
-        (subst
+          rw (sizeAt-padded (p .depth) (p .height), sizeAt-padded (p .depth) (p .width), last-stride (paddedWidth p) (p .depth)) at
+          (subst
           (λ (e : Extent). Agree (sizeAt (e .«low_rows») (e .depth)) (sizeAt (e .«low_columns») (e .depth)) (pictureOf (e .«padded_width» * 2 ^ (e .depth - e .depth)) (levels .last .0))
-            (synthesis (filterOf (p .wavelet)) (e .«low_rows») (e .«low_columns») (pictureOf (e .«padded_width») (now (start .args .coefficients))) (e .depth)))
-          is (levels .ensures .1 none)))
+          (synthesis (filterOf (p .wavelet)) (e .«low_rows») (e .«low_columns») (pictureOf (e .«padded_width») (now (start .args .coefficients))) (e .depth)))
+          is (levels .ensures .1 none)),
+    )
 
 pub synthesise-picture-spec : {M : Type 1} → statement M
 synthesise-picture-spec =

@@ -1,7 +1,8 @@
 -- `lines::buffers::weave` meets its contract: after x turns the plane is the one that came, with 2 · x entries of the woven row stored.
 -- Assumes nothing.
 use mathlib.Core.Path.{_≡_, refl, sym, _∙_}
-use Prim.Native.Nat.{ℕ, _+_, _-_, _*_, _≤_}
+use mathlib.Core.Bool.{true}
+use Prim.Native.Nat.{ℕ, _+_, _-_, _*_, _≤_, _<_}
 use native.Mathlib.Omega.{arith}
 use lib.IntN.{ℤ, pos}
 use lib.ListN.{length, getD, length-set}
@@ -9,21 +10,23 @@ use mir.Syntax.{w32}
 use mir.Val.{toZ, ofZ}
 use Rattle.base.specs.Fill.{fill}
 use Rattle.base.proofs.Fills.{fill-none}
-use Rattle.base.proofs.Ranges.{back}
+use Rattle.base.specs.Range.{fits32}
+use Rattle.base.proofs.Ranges.{back, below-fits32}
 use Rattle.lines.specs.Buffers.{woven, shifted}
-use Rattle.lines.proofs.BufferLaws.{woven-even, woven-odd, fill-two}
+use Rattle.lines.proofs.BufferLaws.{woven-even, woven-odd, fill-two, two-more}
 use Rattle.lines.proofs.buffers.weave.Statement.{statement}
 use Rattle.lines.proofs.buffers.weave.Tie as tie
 
 abbrev Inv-loop : tie.InvT-loop
 Inv-loop plane₀ place low high half shift x₀ plane x =
     (x ≤ half) × (length plane ≡ length plane₀) × (plane ≡ fill plane₀ place (2 * x) (λ k. shifted shift (woven low high k)))
+    × ((k : ℕ) → k < 2 * x → fits32 (shifted shift (woven low high k)) ≡ true)
 
 abbrev μ-loop : tie.MeasureT-loop
 μ-loop plane₀ place low high half shift x₀ plane x = half - x
 
 loop-holds : tie.Need-loop-holds Inv-loop μ-loop
-loop-holds c = (omega arith, refl, sym (fill-none _ _ _))
+loop-holds c = (omega arith, refl, sym (fill-none _ _ _), λ k below. absurd (omega arith))
 
 add-shift-down : tie.Need-add-shift-down Inv-loop μ-loop
 add-shift-down c = omega arith
@@ -110,12 +113,20 @@ odd c =
     )
     refl
 
+-- which fit, as the callee's answers do
+even-fits : (c : tie.After-shift-down Inv-loop μ-loop) → fits32 (wanted (c .before .before .before) (2 * c .before .before .before .loop .x)) ≡ true
+even-fits c = rw (← even c, back w32 (c .shift-down .result) (c .shift-down .ok)) (below-fits32 (c .shift-down .result) (c .shift-down .ok))
+
+odd-fits : (c : tie.After-shift-down2 Inv-loop μ-loop) → fits32 (wanted (c .before .before .before .before .before) (2 * c .before .before .before .before .before .loop .x + 1)) ≡ true
+odd-fits c = rw (← odd c, back w32 (c .shift-down2 .result) (c .shift-down2 .ok)) (below-fits32 (c .shift-down2 .result) (c .shift-down2 .ok))
+
 loop-again : tie.Need-loop-again Inv-loop μ-loop
 loop-again c =
     let head = c .before .before .before .before .before in (
       omega arith,
       simp length-set (head .loop .inv .1),
       rw (even (c .before .before), odd c, head .loop .inv .2) (fill-two _ _ (wanted head) (head .loop .x) _ _ refl refl),
+      two-more (λ k. fits32 (wanted head k) ≡ true) (head .loop .x) (head .loop .inv .3) (even-fits (c .before .before)) (odd-fits c),
     )
 
 same-length : tie.Need-same-length Inv-loop μ-loop
@@ -124,7 +135,7 @@ same-length c = c .before .loop .inv .1
 returns : tie.Need-returns Inv-loop μ-loop
 returns c =
     let all : c .before .loop .x ≡ c .before .before .args .half = omega arith in
-    c .before .loop .inv .2 ∙ rw all refl
+    (c .before .loop .inv .2 ∙ rw all refl, λ k below. c .before .loop .inv .3 k (omega arith))
 
 pub weave-spec : {M : Type 1} → statement M
 weave-spec =

@@ -51,11 +51,13 @@ loop-again : tie.Need-loop-again Inv-loop μ-loop
 loop-again c =
     let turn = c .before .before .before in
     let head = turn .before in
-    let start = head .before in
-    (omega arith, c .before .copy .kept .0 ∙ head .loop .inv .1,
+    let start = head .before in (
+      omega arith,
+      c .before .copy .kept .0 ∙ head .loop .inv .1,
       rw (c .before .copy .ensures)
-      (rows-stored (head .loop .to) (start .args .to-stride) (head .loop .row) (start .args .columns) (λ r x. getD (start .args .from .now) (r * start .args .from-stride + x) (pos 0)) (pos 0)
-      (start .pre .0 .0) (omega (arith, to-end turn, head .loop .inv .1)) (head .loop .inv .2)))
+          (rows-stored (head .loop .to) (start .args .to-stride) (head .loop .row) (start .args .columns) (λ r x. getD (start .args .from .now) (r * start .args .from-stride + x) (pos 0)) (pos 0)
+          (start .pre .0 .0) (omega (arith, to-end turn, head .loop .inv .1)) (head .loop .inv .2)),
+    )
 
 same-length : tie.Need-same-length Inv-loop μ-loop
 same-length c = c .before .loop .inv .1

@@ -112,10 +112,12 @@ loop-less c = omega arith
 loop-again : tie.Need-loop-again Inv-loop μ-loop
 loop-again c =
     let turn = c .before .before .before .before .before .before in
-    let head = turn .before in
-    (omega (arith, turn .loop-test .taken), c .before .copy2 .kept .0 ∙ c .before .before .before .before .copy .kept .0 ∙ head .loop .inv .1,
+    let head = turn .before in (
+      omega (arith, turn .loop-test .taken),
+      c .before .copy2 .kept .0 ∙ c .before .before .before .before .copy .kept .0 ∙ head .loop .inv .1,
       rw (c .before .copy2 .ensures, c .before .before .before .before .copy .ensures)
-      (turned-more _ _ _ _ _ _ (head .before .pre .0 .apart) (head .loop .work) (head .loop .r) (head .loop .inv .2) (omega (arith, odd-end turn, head .loop .inv .1))))
+          (turned-more _ _ _ _ _ _ (head .before .pre .0 .apart) (head .loop .work) (head .loop .r) (head .loop .inv .2) (omega (arith, odd-end turn, head .loop .inv .1))),
+    )
 
 same-length : tie.Need-same-length Inv-loop μ-loop
 same-length c = c .before .loop .inv .1

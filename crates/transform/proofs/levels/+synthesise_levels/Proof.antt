@@ -40,13 +40,13 @@ levels-below t = and 5 levels-kinds.ps (falls 5 levels-kinds.ps _<_ μ-levels t)
 module _ (t : ℕ) where
   abbrev Entry : Type 0
   Entry = levels-lts.Start (
-      copy-low-band-reads.Asked,
-      copy-low-band-reads.Learnt,
-      levels-below t,
-      levels.Post,
-      synthesise-level-reads.Asked,
-      synthesise-level-reads.Learnt,
-    ) (levels-at t) levels.Post
+    copy-low-band-reads.Asked,
+    copy-low-band-reads.Learnt,
+    levels-below t,
+    levels.Post,
+    synthesise-level-reads.Asked,
+    synthesise-level-reads.Learnt,
+  ) (levels-at t) levels.Post
 
   -- what the contract speaks of, from the function's entry
   abbrev coefficient-picture : Entry → Picture
@@ -62,124 +62,128 @@ module _ (t : ℕ) where
       (synthesis (filterOf (c .args .wavelet)) (c .args .extent .«low_rows») (c .args .extent .«low_columns») (coefficient-picture c) k)
 
   copy-low-band-requires : levels-lts.Need-copy-low-band-requires (
-      copy-low-band-reads.Asked,
-      copy-low-band-reads.Learnt,
-      levels-below t,
-      levels.Post,
-      synthesise-level-reads.Asked,
-      synthesise-level-reads.Learnt,
-    ) (levels-at t) levels.Post
+    copy-low-band-reads.Asked,
+    copy-low-band-reads.Learnt,
+    levels-below t,
+    levels.Post,
+    synthesise-level-reads.Asked,
+    synthesise-level-reads.Learnt,
+  ) (levels-at t) levels.Post
   copy-low-band-requires c κs = (c .before .before .pre .1 .0, c .before .before .pre .1 .1)
 
   same-length : levels-lts.Need-same-length (
-      copy-low-band-reads.Asked,
-      copy-low-band-reads.Learnt,
-      levels-below t,
-      levels.Post,
-      synthesise-level-reads.Asked,
-      synthesise-level-reads.Learnt,
-    ) (levels-at t) levels.Post
+    copy-low-band-reads.Asked,
+    copy-low-band-reads.Learnt,
+    levels-below t,
+    levels.Post,
+    synthesise-level-reads.Asked,
+    synthesise-level-reads.Learnt,
+  ) (levels-at t) levels.Post
   same-length c = c .before .copy-low-band .kept .0
 
   returns : levels-lts.Need-returns (
-      copy-low-band-reads.Asked,
-      copy-low-band-reads.Learnt,
-      levels-below t,
-      levels.Post,
-      synthesise-level-reads.Asked,
-      synthesise-level-reads.Learnt,
-    ) (levels-at t) levels.Post
+    copy-low-band-reads.Asked,
+    copy-low-band-reads.Learnt,
+    levels-below t,
+    levels.Post,
+    synthesise-level-reads.Asked,
+    synthesise-level-reads.Learnt,
+  ) (levels-at t) levels.Post
   unfolding firstBadLevel synthesis sizeAt
-  returns c = 
+  returns c =
       let start = c .before .before .before .before in
       let none = c .before .before .before .if1 .taken in
       let whole : start .args .extent .depth - 0 ≡ start .args .extent .depth = omega arith in
       (rw none refl, λ e. rw (none, whole) (c .before .copy-low-band .ensures))
 
   sub-below : levels-lts.Need-sub-below (
-      copy-low-band-reads.Asked,
-      copy-low-band-reads.Learnt,
-      levels-below t,
-      levels.Post,
-      synthesise-level-reads.Asked,
-      synthesise-level-reads.Learnt,
-    ) (levels-at t) levels.Post
+    copy-low-band-reads.Asked,
+    copy-low-band-reads.Learnt,
+    levels-below t,
+    levels.Post,
+    synthesise-level-reads.Asked,
+    synthesise-level-reads.Learnt,
+  ) (levels-at t) levels.Post
   sub-below c = omega arith
 
   synthesise-levels-requires : levels-lts.Need-synthesise-levels-requires (
-      copy-low-band-reads.Asked,
-      copy-low-band-reads.Learnt,
-      levels-below t,
-      levels.Post,
-      synthesise-level-reads.Asked,
-      synthesise-level-reads.Learnt,
-    ) (levels-at t) levels.Post
-  synthesise-levels-requires c κs = 
+    copy-low-band-reads.Asked,
+    copy-low-band-reads.Learnt,
+    levels-below t,
+    levels.Post,
+    synthesise-level-reads.Asked,
+    synthesise-level-reads.Learnt,
+  ) (levels-at t) levels.Post
+  synthesise-levels-requires c κs =
       let start = c .before .before .before .before .before in
       (omega (arith, start .pre .0), (start .pre .1 .0, start .pre .1 .1, start .pre .1 .2, omega (arith, start .pre .1 .3)))
 
   same-length-2 : levels-lts.Need-same-length-2 (
-      copy-low-band-reads.Asked,
-      copy-low-band-reads.Learnt,
-      levels-below t,
-      levels.Post,
-      synthesise-level-reads.Asked,
-      synthesise-level-reads.Learnt,
-    ) (levels-at t) levels.Post
+    copy-low-band-reads.Asked,
+    copy-low-band-reads.Learnt,
+    levels-below t,
+    levels.Post,
+    synthesise-level-reads.Asked,
+    synthesise-level-reads.Learnt,
+  ) (levels-at t) levels.Post
   same-length-2 c = c .before .before .synthesise-levels .kept .0
 
   returns-2 : levels-lts.Need-returns-2 (
-      copy-low-band-reads.Asked,
-      copy-low-band-reads.Learnt,
-      levels-below t,
-      levels.Post,
-      synthesise-level-reads.Asked,
-      synthesise-level-reads.Learnt,
-    ) (levels-at t) levels.Post
-  returns-2 c = 
+    copy-low-band-reads.Asked,
+    copy-low-band-reads.Learnt,
+    levels-below t,
+    levels.Post,
+    synthesise-level-reads.Asked,
+    synthesise-level-reads.Learnt,
+  ) (levels-at t) levels.Post
+  returns-2 c =
       let start = c .before .before .before .before .before .before .before .before in
       let n = start .args .n in
       let up : suc (n - 1) ≡ n = omega (arith, c .before .before .before .before .before .before .before .if1 .left) in
       let told = c .before .before .synthesise-levels .ensures .0 in
-      let some = c .if2 .taken in
-      (told
-        ∙ subst (λ (k : ℕ). first-bad start (n - 1) ≡ first-bad start k) up
-          (bad-below (filterOf (start .args .wavelet)) _ _ (start .pre .1 .0 .rows-least) (start .pre .1 .0 .columns-least) (coefficient-picture start) (n - 1) (λ e. some (told ∙ e))),
-        λ e. absurd (some e))
+      let some = c .if2 .taken in (
+        told
+            ∙ subst (λ (k : ℕ). first-bad start (n - 1) ≡ first-bad start k) up
+            (bad-below (filterOf (start .args .wavelet)) _ _ (start .pre .1 .0 .rows-least) (start .pre .1 .0 .columns-least) (coefficient-picture start) (n - 1) (λ e. some (told ∙ e))),
+        λ e. absurd (some e),
+      )
 
   synthesise-level-requires : levels-lts.Need-synthesise-level-requires (
-      copy-low-band-reads.Asked,
-      copy-low-band-reads.Learnt,
-      levels-below t,
-      levels.Post,
-      synthesise-level-reads.Asked,
-      synthesise-level-reads.Learnt,
-    ) (levels-at t) levels.Post
-  synthesise-level-requires c κs = 
+    copy-low-band-reads.Asked,
+    copy-low-band-reads.Learnt,
+    levels-below t,
+    levels.Post,
+    synthesise-level-reads.Asked,
+    synthesise-level-reads.Learnt,
+  ) (levels-at t) levels.Post
+  synthesise-level-requires c κs =
       let start = c .before .before .before .before .before .before .before .before .before .before .before .before in
-      let kept = c .before .before .before .before .before .before .synthesise-levels .kept .0 in
-      (subst (Geometry (start .args .extent)) (sym kept) (start .pre .1 .0), start .pre .1 .1 ∙ sym kept, start .pre .1 .2,
-        omega (arith, start .pre .1 .3, c .before .before .before .before .before .before .before .before .before .before .before .if1 .left))
+      let kept = c .before .before .before .before .before .before .synthesise-levels .kept .0 in (
+        subst (Geometry (start .args .extent)) (sym kept) (start .pre .1 .0),
+        start .pre .1 .1 ∙ sym kept,
+        start .pre .1 .2,
+        omega (arith, start .pre .1 .3, c .before .before .before .before .before .before .before .before .before .before .before .if1 .left),
+      )
 
   same-length-3 : levels-lts.Need-same-length-3 (
-      copy-low-band-reads.Asked,
-      copy-low-band-reads.Learnt,
-      levels-below t,
-      levels.Post,
-      synthesise-level-reads.Asked,
-      synthesise-level-reads.Learnt,
-    ) (levels-at t) levels.Post
+    copy-low-band-reads.Asked,
+    copy-low-band-reads.Learnt,
+    levels-below t,
+    levels.Post,
+    synthesise-level-reads.Asked,
+    synthesise-level-reads.Learnt,
+  ) (levels-at t) levels.Post
   same-length-3 c = c .before .before .synthesise-level .kept .0 ∙ c .before .before .before .before .before .before .before .before .before .synthesise-levels .kept .0
 
   returns-3 : levels-lts.Need-returns-3 (
-      copy-low-band-reads.Asked,
-      copy-low-band-reads.Learnt,
-      levels-below t,
-      levels.Post,
-      synthesise-level-reads.Asked,
-      synthesise-level-reads.Learnt,
-    ) (levels-at t) levels.Post
-  returns-3 c = 
+    copy-low-band-reads.Asked,
+    copy-low-band-reads.Learnt,
+    levels-below t,
+    levels.Post,
+    synthesise-level-reads.Asked,
+    synthesise-level-reads.Learnt,
+  ) (levels-at t) levels.Post
+  returns-3 c =
       let start = c .before .before .before .before .before .before .before .before .before .before .before .before .before .before .before in
       let n = start .args .n in
       let g = start .pre .1 .0 in
@@ -188,34 +192,35 @@ module _ (t : ℕ) where
       let level = c .before .before .synthesise-level in
       let none = c .before .before .before .before .before .before .before .if2 .left in
       let below : Picture = pictureOf (start .args .extent .«padded_width» * 2 ^ (start .args .extent .depth - (n - 1))) (rest .last .0) in
-      let fits = level-fits (filterOf (start .args .wavelet)) _ _ (g .rows-least) (g .columns-least) (coefficient-picture start) (n - 1) below (rest .ensures .1 none) in
-      (subst (λ (k : ℕ). 0 ≡ first-bad start k) up
-        (bad-none (filterOf (start .args .wavelet)) _ _ (g .rows-least) (g .columns-least) (coefficient-picture start) (n - 1) (sym (rest .ensures .0) ∙ none)
-          (sym fits ∙ sym (level .ensures .0) ∙ c .if3 .taken)),
+      let fits = level-fits (filterOf (start .args .wavelet)) _ _ (g .rows-least) (g .columns-least) (coefficient-picture start) (n - 1) below (rest .ensures .1 none) in (
+        subst (λ (k : ℕ). 0 ≡ first-bad start k) up
+            (bad-none (filterOf (start .args .wavelet)) _ _ (g .rows-least) (g .columns-least) (coefficient-picture start) (n - 1) (sym (rest .ensures .0) ∙ none)
+            (sym fits ∙ sym (level .ensures .0) ∙ c .if3 .taken)),
         λ e.
-          subst (λ (k : ℕ). Built start (level .last .0) k) up
-          (level-picture (filterOf (start .args .wavelet)) _ _ (g .rows-least) (g .columns-least) (coefficient-picture start) (n - 1) below (rest .ensures .1 none)
-            (pictureOf (start .args .extent .«padded_width» * 2 ^ (start .args .extent .depth - suc (n - 1))) (level .last .0)) (level .ensures .1 (c .if3 .taken))))
+            subst (λ (k : ℕ). Built start (level .last .0) k) up
+            (level-picture (filterOf (start .args .wavelet)) _ _ (g .rows-least) (g .columns-least) (coefficient-picture start) (n - 1) below (rest .ensures .1 none)
+            (pictureOf (start .args .extent .«padded_width» * 2 ^ (start .args .extent .depth - suc (n - 1))) (level .last .0)) (level .ensures .1 (c .if3 .taken))),
+      )
 
   same-length-4 : levels-lts.Need-same-length-4 (
-      copy-low-band-reads.Asked,
-      copy-low-band-reads.Learnt,
-      levels-below t,
-      levels.Post,
-      synthesise-level-reads.Asked,
-      synthesise-level-reads.Learnt,
-    ) (levels-at t) levels.Post
+    copy-low-band-reads.Asked,
+    copy-low-band-reads.Learnt,
+    levels-below t,
+    levels.Post,
+    synthesise-level-reads.Asked,
+    synthesise-level-reads.Learnt,
+  ) (levels-at t) levels.Post
   same-length-4 c = c .before .before .synthesise-level .kept .0 ∙ c .before .before .before .before .before .before .before .before .before .synthesise-levels .kept .0
 
   returns-4 : levels-lts.Need-returns-4 (
-      copy-low-band-reads.Asked,
-      copy-low-band-reads.Learnt,
-      levels-below t,
-      levels.Post,
-      synthesise-level-reads.Asked,
-      synthesise-level-reads.Learnt,
-    ) (levels-at t) levels.Post
-  returns-4 c = 
+    copy-low-band-reads.Asked,
+    copy-low-band-reads.Learnt,
+    levels-below t,
+    levels.Post,
+    synthesise-level-reads.Asked,
+    synthesise-level-reads.Learnt,
+  ) (levels-at t) levels.Post
+  returns-4 c =
       let start = c .before .before .before .before .before .before .before .before .before .before .before .before .before .before .before in
       let n = start .args .n in
       let g = start .pre .1 .0 in
@@ -224,21 +229,22 @@ module _ (t : ℕ) where
       let level = c .before .before .synthesise-level in
       let none = c .before .before .before .before .before .before .before .if2 .left in
       let below : Picture = pictureOf (start .args .extent .«padded_width» * 2 ^ (start .args .extent .depth - (n - 1))) (rest .last .0) in
-      let fits = level-fits (filterOf (start .args .wavelet)) _ _ (g .rows-least) (g .columns-least) (coefficient-picture start) (n - 1) below (rest .ensures .1 none) in
-      (subst (λ (k : ℕ). k ≡ first-bad start k) up
-        (bad-here (filterOf (start .args .wavelet)) _ _ (g .rows-least) (g .columns-least) (coefficient-picture start) (n - 1) (sym (rest .ensures .0) ∙ none)
-          (sym fits ∙ sym (level .ensures .0) ∙ c .if3 .left)),
-        λ e. absurd (c .before .before .before .before .before .before .before .before .before .before .before .before .before .before .if1 .left e))
+      let fits = level-fits (filterOf (start .args .wavelet)) _ _ (g .rows-least) (g .columns-least) (coefficient-picture start) (n - 1) below (rest .ensures .1 none) in (
+        subst (λ (k : ℕ). k ≡ first-bad start k) up
+            (bad-here (filterOf (start .args .wavelet)) _ _ (g .rows-least) (g .columns-least) (coefficient-picture start) (n - 1) (sym (rest .ensures .0) ∙ none)
+            (sym fits ∙ sym (level .ensures .0) ∙ c .if3 .left)),
+        λ e. absurd (c .before .before .before .before .before .before .before .before .before .before .before .before .before .before .if1 .left e),
+      )
 
 pub +synthesise-levels-spec : {M : Type 1} → statement M
 +synthesise-levels-spec = close μ-levels λ t. levels-lts.spec (
-      copy-low-band-reads.Asked,
-      copy-low-band-reads.Learnt,
-      levels-below t,
-      levels.Post,
-      synthesise-level-reads.Asked,
-      synthesise-level-reads.Learnt,
-    ) (levels-at t) levels.Post
+  copy-low-band-reads.Asked,
+  copy-low-band-reads.Learnt,
+  levels-below t,
+  levels.Post,
+  synthesise-level-reads.Asked,
+  synthesise-level-reads.Learnt,
+) (levels-at t) levels.Post
     (copy-low-band-requires t)
     (same-length t)
     (returns t)

@@ -28,10 +28,11 @@ returns : tie.Need-returns
 returns c =
     let start = c .before .before .before .before in
     let e = start .args .extent in
-    let above : e .depth - 1 - start .args .below ≡ e .depth - suc (start .args .below) = omega arith in
-    (size-shifted _ _ (start .pre .2) (omega arith) ∙ ap (λ (k : ℕ). e .«padded_width» * 2 ^ k) above,
+    let above : e .depth - 1 - start .args .below ≡ e .depth - suc (start .args .below) = omega arith in (
+      size-shifted _ _ (start .pre .2) (omega arith) ∙ ap (λ (k : ℕ). e .«padded_width» * 2 ^ k) above,
       size-shifted _ _ (start .pre .3) (omega arith) ∙ sym (sizeAt-power _ _),
-      size-shifted _ _ (start .pre .4) (omega arith) ∙ sym (sizeAt-power _ _))
+      size-shifted _ _ (start .pre .4) (omega arith) ∙ sym (sizeAt-power _ _),
+    )
 
 pub next-frame-spec : {M : Type 1} → statement M
 next-frame-spec =

@@ -41,10 +41,13 @@ interleave-bands-requires : tie.Need-interleave-bands-requires
 interleave-bands-requires c κs =
     let framed = c .before in
     let start = framed .before in
-    let told = framed .next-frame .ensures in
-    (placed-in framed _ refl,
-      (rw (told .2) (next-columns _ _ (start .pre .0) (start .args .below) (start .pre .3)),
-        rw (told .1, start .pre .1) (rows-whole _ _ (start .pre .0) (start .args .below) (start .pre .3))))
+    let told = framed .next-frame .ensures in (
+      placed-in framed _ refl,
+      (
+        rw (told .2) (next-columns _ _ (start .pre .0) (start .args .below) (start .pre .3)),
+        rw (told .1, start .pre .1) (rows-whole _ _ (start .pre .0) (start .args .below) (start .pre .3)),
+      ),
+    )
 
 filter-columns-requires : tie.Need-filter-columns-requires
 filter-columns-requires c κs = (placed-in (c .before .before .before .before .before) _ (c .before .before .before .interleave-bands .kept .0), c .before .before .before .before .before .before .pre .2)
@@ -69,8 +72,8 @@ module _ (c : tie.After-next-frame) where
   -- the same, with the sizes that the contract names
   by-sizes : (P : ℕ → ℕ → ℕ → ℕ → Type 0) → P (c .next-frame .result .«band_rows») (c .next-frame .result .«band_columns») F (2 * F) →
       P (sizeAt (c .before .args .extent .«low_rows») (c .before .args .below)) (sizeAt (c .before .args .extent .«low_columns») (c .before .args .below))
-        (c .before .args .extent .«padded_width» * 2 ^ (c .before .args .extent .depth - suc (c .before .args .below)))
-        (c .before .args .extent .«padded_width» * 2 ^ (c .before .args .extent .depth - c .before .args .below))
+      (c .before .args .extent .«padded_width» * 2 ^ (c .before .args .extent .depth - suc (c .before .args .below)))
+      (c .before .args .extent .«padded_width» * 2 ^ (c .before .args .extent .depth - c .before .args .below))
   by-sizes P holds =
       let told = c .next-frame .ensures in
       carried P _ _ _ _ _ _ _ _ (told .1) (told .2) (told .0)
@@ -81,13 +84,14 @@ unfolding sizeAt halvesOf pictureOf
 returns c =
     let framed = c .before .before .before .before .before .before .before .before in
     let frame = framed .next-frame .result in
-    let sizes = placed-in framed (start-work framed) refl in
-    (by-sizes framed
-      (λ bh bw s s2. false ≡ allNewFit (2 * bh) (2 * bw) (synthesisPasses (filterOf (framed .before .args .wavelet))) (interleave bh bw (pictureOf s2 (start-work framed)) (coefficient-picture framed)))
-      (level-fails (filterOf (framed .before .args .wavelet)) (frame .«band_rows») (frame .«band_columns») (sizes .rows-least) (sizes .columns-least) (woven framed)
-        (pictureOf (frame .stride) (c .before .before .before .before .before .before .interleave-bands .last .0)) (c .before .before .before .before .before .before .interleave-bands .ensures)
-        (sym (c .before .before .filter-columns .ensures .0) ∙ not-true _ (c .if1 .taken))),
-      λ e. let z : _≡_ {A = ℕ} 0 1 = cc in absurd (omega arith))
+    let sizes = placed-in framed (start-work framed) refl in (
+      by-sizes framed
+          (λ bh bw s s2. false ≡ allNewFit (2 * bh) (2 * bw) (synthesisPasses (filterOf (framed .before .args .wavelet))) (interleave bh bw (pictureOf s2 (start-work framed)) (coefficient-picture framed)))
+          (level-fails (filterOf (framed .before .args .wavelet)) (frame .«band_rows») (frame .«band_columns») (sizes .rows-least) (sizes .columns-least) (woven framed)
+          (pictureOf (frame .stride) (c .before .before .before .before .before .before .interleave-bands .last .0)) (c .before .before .before .before .before .before .interleave-bands .ensures)
+          (sym (c .before .before .filter-columns .ensures .0) ∙ not-true _ (c .if1 .taken))),
+      λ e. let z : _≡_ {A = ℕ} 0 1 = cc in absurd (omega arith),
+    )
 
 filter-rows-requires : tie.Need-filter-rows-requires
 filter-rows-requires c κs =
@@ -106,21 +110,22 @@ returns-2 c =
     let columns-ok = c .before .before .before .before .before .before .before .before .filter-columns in
     let rows-ok = c .before .filter-rows in
     let passed = sym (columns-ok .ensures .0) ∙ not-false _ (c .before .before .before .before .before .before .if1 .left) in
-    let after = columns-ok .ensures .1 (not-false _ (c .before .before .before .before .before .before .if1 .left)) in
-    (by-sizes framed
-      (λ bh bw s s2. rows-ok .result ≡ allNewFit (2 * bh) (2 * bw) (synthesisPasses filter) (interleave bh bw (pictureOf s2 (start-work framed)) (coefficient-picture framed)))
-      (rows-ok .ensures .0
-        ∙ level-told filter (frame .«band_rows») (frame .«band_columns») (sizes .rows-least) (sizes .columns-least) (woven framed)
+    let after = columns-ok .ensures .1 (not-false _ (c .before .before .before .before .before .before .if1 .left)) in (
+      by-sizes framed
+          (λ bh bw s s2. rows-ok .result ≡ allNewFit (2 * bh) (2 * bw) (synthesisPasses filter) (interleave bh bw (pictureOf s2 (start-work framed)) (coefficient-picture framed)))
+          (rows-ok .ensures .0
+          ∙ level-told filter (frame .«band_rows») (frame .«band_columns») (sizes .rows-least) (sizes .columns-least) (woven framed)
           (pictureOf (frame .stride) (c .before .before .before .before .before .before .before .before .before .before .before .before .interleave-bands .last .0)) (c .before .before .before .before .before .before .before .before .before .before .before .before .interleave-bands .ensures) passed
           (pictureOf (frame .stride) (columns-ok .last .0)) after
           (λ e. rows-ok .ensures .1 .1 (rows-ok .ensures .0 ∙ e))),
       λ e.
-        by-sizes framed
-        (λ bh bw s s2. Agree (2 * bh) (2 * bw) (pictureOf s (rows-ok .last .0)) (runAll (2 * bh) (2 * bw) (synthesisPasses filter) (interleave bh bw (pictureOf s2 (start-work framed)) (coefficient-picture framed))))
-        (level-done filter (frame .«band_rows») (frame .«band_columns») (sizes .rows-least) (sizes .columns-least) (woven framed)
+          by-sizes framed
+          (λ bh bw s s2. Agree (2 * bh) (2 * bw) (pictureOf s (rows-ok .last .0)) (runAll (2 * bh) (2 * bw) (synthesisPasses filter) (interleave bh bw (pictureOf s2 (start-work framed)) (coefficient-picture framed))))
+          (level-done filter (frame .«band_rows») (frame .«band_columns») (sizes .rows-least) (sizes .columns-least) (woven framed)
           (pictureOf (frame .stride) (c .before .before .before .before .before .before .before .before .before .before .before .before .interleave-bands .last .0)) (c .before .before .before .before .before .before .before .before .before .before .before .before .interleave-bands .ensures) passed
           (pictureOf (frame .stride) (columns-ok .last .0)) after
-          (pictureOf (frame .stride) (rows-ok .last .0)) (rows-ok .ensures .1 .0 e)))
+          (pictureOf (frame .stride) (rows-ok .last .0)) (rows-ok .ensures .1 .0 e)),
+    )
 
 pub synthesise-level-spec : {M : Type 1} → statement M
 synthesise-level-spec =

@@ -1,0 +1,78 @@
+-- Where the rows of a picture stand in a plane: each inside it, apart from the others, and what a picture shows of a plane whose row was
+-- filled.
+-- Assumes nothing.
+use mathlib.Core.Path.{_≡_, sym}
+use mathlib.Core.Logic.{_≢_}
+use mathlib.Core.Bool.{Bool, true, false}
+use mathlib.Core.List.{List}
+use Prim.Native.Nat.{ℕ, _+_, _*_, _≤_, _<_}
+use native.Mathlib.Omega.{arith}
+use lib.IntN.{ℤ, pos, _+ℤ_, _*ℤ_}
+use lib.ListN.{length, getD}
+use Rattle.base.specs.Fill.{fill}
+use Rattle.base.proofs.Fills.{getD-fill-in, getD-fill-out}
+use Rattle.base.proofs.Grids.{rows-apart}
+use Rattle.lines.specs.Sums.{sumBelow, tapAt, changed}
+use Rattle.lifting.specs.Lifting.{rounding, lift}
+use Rattle.lifting.specs.Layout.{Placed, targetRow, sourceRow}
+use Rattle.lifting.specs.Planes.{pictureOf}
+use Rattle.lifting.specs.Table.{stepOf}
+use Rattle.lifting.specs.declared.columns.Frame.{Frame}
+use Rattle.lifting.specs.declared.filters.LiftingStep.{LiftingStep}
+use Rattle.lifting.proofs.Taps.{sum-same, lift-at-target}
+
+-- the rows that a step changes and reads are rows of the picture
+pub target-below : (even : Bool) (k b : ℕ) → k < b → targetRow even k < 2 * b
+unfolding targetRow
+target-below true k b h = omega arith
+target-below false k b h = omega arith
+
+pub source-below : (even : Bool) (b s : ℕ) → 1 ≤ b → sourceRow even b s < 2 * b
+unfolding sourceRow
+source-below true b s h = omega arith
+source-below false b s h = omega arith
+
+-- a frame's picture stands in any plane of that length
+pub placed-same : (f : Frame) (plane₁ plane₂ : List ℤ) → Placed f plane₁ → length plane₂ ≡ length plane₁ → Placed f plane₂
+placed-same f plane₁ plane₂ placed same =
+    record {
+      rows-least = placed .rows-least;
+      rows-most = placed .rows-most;
+      columns-least = placed .columns-least;
+      columns-most = placed .columns-most;
+      apart = placed .apart;
+      inside = rw same (placed .inside);
+    }
+
+module _ (stride : ℕ) (plane : List ℤ) (target width : ℕ) (f : ℕ → ℤ) (narrow : width ≤ stride) where
+  -- the row that was filled
+  pub filled-row : target * stride + width ≤ length plane → (x : ℕ) → x < width → pictureOf stride (fill plane (target * stride) width f) target x ≡ f x
+  unfolding pictureOf
+  filled-row room x h = getD-fill-in plane (target * stride) f width x (pos 0) h (omega arith)
+
+  -- and the others
+  pub other-row : (row x : ℕ) → row ≢ target → x < width → pictureOf stride (fill plane (target * stride) width f) row x ≡ pictureOf stride plane row x
+  unfolding pictureOf
+  other-row row x other h =
+      getD-fill-out plane (target * stride) f width (row * stride + x) (pos 0)
+      (λ k below. rows-apart stride row target x k other (omega arith) (omega arith))
+
+-- what the code makes of the row that a step changes in pair k, element by element
+pub lifted-row :
+    (r : LiftingStep) (b k stride width : ℕ) (plane sums : List ℤ) (places : List ℕ) (round : ℤ)
+    → ((t : ℕ) → t < r .count → getD places t 0 ≡ sourceRow (r .even) b (k + r .lead + t) * stride)
+    → round ≡ rounding (r .scale)
+    → ((x : ℕ) → x < width → getD sums x (pos 0) ≡ round +ℤ sumBelow (tapAt (r .taps) places plane x) (r .count))
+    → (x : ℕ) → x < width
+    → changed (r .adds) (r .scale) (getD plane (targetRow (r .even) k * stride + x) (pos 0)) (getD sums x (pos 0))
+    ≡ lift (stepOf r) (2 * b) (λ row. pictureOf stride plane row x) (targetRow (r .even) k)
+unfolding pictureOf tapAt
+lifted-row r b k stride width plane sums places round at rounded summed x h =
+    let picture : ℕ → ℤ = λ row. pictureOf stride plane row x in
+    let same =
+    sum-same (tapAt (r .taps) places plane x)
+    (λ t. getD (r .taps) t (pos 0) *ℤ picture (sourceRow (r .even) b (k + r .lead + t)))
+    (r .count)
+    (λ t below. rw (at t below))
+    in
+    rw (summed x h, rounded, same) (sym (lift-at-target r b k picture))

@@ -1,0 +1,240 @@
+-- The laws of a row that stands as two halves: what stands where, and what a step makes of it.
+-- Assumes nothing.
+use mathlib.Core.Path.{_≡_, refl, sym, ap, _∙_}
+use mathlib.Core.Bool.{Bool, true, false, not, cond, _&&_, _||_, and-true}
+use mathlib.Core.List.{List}
+use Prim.Native.Nat.{ℕ, zero, suc, _+_, _-_, _*_, _/_, _%_, _≤_, _<_, min}
+use native.Mathlib.Nat.{zero-add, add-zero}
+use native.Mathlib.Decide.{decLt}
+use native.Mathlib.Omega.{arith}
+use lib.Dec.{eqb}
+use lib.IntN.{ℤ, pos, _+ℤ_, _*ℤ_}
+use lib.ListN.{length, getD}
+use borrow.Author.Tests.{eq-eqb, ne-eqb}
+use Rattle.base.specs.Every.{allBelow}
+use Rattle.base.specs.Fill.{fill}
+use Rattle.base.specs.Range.{fits32}
+use Rattle.base.proofs.Everys.{all-same}
+use Rattle.base.proofs.Fills.{fill-same, getD-fill-in}
+use Rattle.lines.specs.Buffers.{heldEntry, woven}
+use Rattle.lines.specs.Sums.{sumBelow, tapAt, changed}
+use Rattle.lines.proofs.BufferLaws.{woven-even, woven-odd}
+use Rattle.lifting.specs.Lifting.{Line, rounding, changes, lift}
+use Rattle.lifting.specs.Passes.{rows, run, newFit, assigns}
+use Rattle.lifting.specs.Layout.{targetRow, sourceRow, halfPlace}
+use Rattle.lifting.specs.Table.{typeOf, stepOf, Sane}
+use Rattle.lifting.specs.declared.filters.LiftingStep.{LiftingStep}
+use Rattle.lifting.proofs.Lifts.{lift-keeps}
+use Rattle.lifting.proofs.Taps.{sum-same, type-says, lift-at-target}
+use Rattle.lifting.proofs.RowLaws.{all-pairs}
+
+-- an even place, and an odd one
+module _ (k : ℕ) where
+  even-test : eqb (2 * k % 2) 0 ≡ true
+  even-test = eq-eqb (2 * k % 2) 0 (omega arith)
+
+  odd-test : eqb ((2 * k + 1) % 2) 0 ≡ false
+  odd-test = ne-eqb ((2 * k + 1) % 2) 0 (λ e. omega arith)
+
+  even-half : 2 * k / 2 ≡ k
+  even-half = omega arith
+
+  odd-half : (2 * k + 1) / 2 ≡ k
+  odd-half = omega arith
+
+-- what holds of the even and of the odd places of a line holds of all
+by-parity : (P : ℕ → Type 0) (n : ℕ) → ((k : ℕ) → k < n → P (2 * k)) → ((k : ℕ) → k < n → P (2 * k + 1)) → (x : ℕ) → x < 2 * n → P x
+by-parity P n even odd x inside =
+    elim (decLt (x % 2) 1) [
+      | yes below ↦
+          let place : x ≡ 2 * (x / 2) = omega arith in
+          rw place (even (x / 2) (omega arith))
+      | no notBelow ↦
+          let place : x ≡ 2 * (x / 2) + 1 = omega arith in
+          rw place (odd (x / 2) (omega arith))
+    ]
+
+-- The buffer of the half that a step changes, and that of the half that it reads, woven.
+abbrev pub wovenBy : Bool → List ℤ → List ℤ → Line
+wovenBy even target source = cond even (woven target source) (woven source target)
+
+-- at a place that the step changes, and at one that it reads
+woven-target : (even : Bool) (target source : List ℤ) (k : ℕ) → wovenBy even target source (targetRow even k) ≡ getD target (4 + k) (pos 0)
+unfolding targetRow
+woven-target true target source k = rw (add-zero (2 * k)) (woven-even target source k)
+woven-target false target source k = woven-odd source target k
+
+woven-source :
+    (even : Bool) (target source : List ℤ) (b s : ℕ)
+    → wovenBy even target source (sourceRow even b s) ≡ getD source (heldEntry b s) (pos 0)
+unfolding sourceRow heldEntry
+woven-source true target source b s = woven-odd target source (min (s - 4) (b - 1))
+woven-source false target source b s = rw (add-zero (2 * min (s - 4) (b - 1))) (woven-even source target (min (s - 4) (b - 1)))
+
+-- at a place that it keeps
+woven-kept : (even : Bool) (target source : List ℤ) (k : ℕ) → wovenBy even target source (targetRow (not even) k) ≡ getD source (4 + k) (pos 0)
+unfolding targetRow
+woven-kept true target source k = woven-odd target source k
+woven-kept false target source k = rw (add-zero (2 * k)) (woven-even source target k)
+
+-- lines that agree at the places that a step changes, and at those that it keeps, agree
+by-targets :
+    (even : Bool) (n : ℕ) (A B : Line)
+    → ((k : ℕ) → k < n → A (targetRow even k) ≡ B (targetRow even k))
+    → ((k : ℕ) → k < n → A (targetRow (not even) k) ≡ B (targetRow (not even) k))
+    → (x : ℕ) → x < 2 * n → A x ≡ B x
+unfolding targetRow
+by-targets true n A B new kept = by-parity (λ x. A x ≡ B x) n (λ k h. rw (add-zero (2 * k)) at (new k h)) kept
+by-targets false n A B new kept = by-parity (λ x. A x ≡ B x) n (λ k h. rw (add-zero (2 * k)) at (kept k h)) new
+
+-- the places that a step changes
+changes-even : (even adds : Bool) (k : ℕ) → changes (typeOf even adds) (2 * k) ≡ even
+unfolding changes
+changes-even true adds k = rw (type-says true adds .0) (even-test k)
+changes-even false adds k = rw (type-says false adds .0) (ne-eqb (2 * k % 2) 1 (λ e. omega arith))
+
+changes-odd : (even adds : Bool) (k : ℕ) → changes (typeOf even adds) (2 * k + 1) ≡ not even
+unfolding changes
+changes-odd true adds k = rw (type-says true adds .0) (odd-test k)
+changes-odd false adds k = rw (type-says false adds .0) (eq-eqb ((2 * k + 1) % 2) 1 (omega arith))
+
+changes-kept : (even adds : Bool) (k : ℕ) → changes (typeOf even adds) (targetRow (not even) k) ≡ false
+unfolding targetRow
+changes-kept true adds k = changes-odd true adds k
+changes-kept false adds k = rw (add-zero (2 * k)) (changes-even false adds k)
+
+-- of two neighbours only the one that a step changes is tested
+new-target :
+    (even adds : Bool) (fit : ℕ → Bool) (k : ℕ)
+    → (not (changes (typeOf even adds) (2 * k)) || fit (2 * k)) && (not (changes (typeOf even adds) (2 * k + 1)) || fit (2 * k + 1))
+    ≡ fit (targetRow even k)
+unfolding targetRow
+new-target true adds fit k = rw (changes-even true adds k, changes-odd true adds k, add-zero (2 * k)) (and-true (fit (2 * k)))
+new-target false adds fit k = rw (changes-even false adds k, changes-odd false adds k)
+
+-- The number that a step gives to entry k of the half that it changes.
+abbrev pub newEntry : LiftingStep → ℕ → List ℤ → List ℤ → ℕ → ℤ
+newEntry r b target source k =
+    changed (r .adds) (r .scale) (getD target (4 + k) (pos 0))
+    (rounding (r .scale) +ℤ sumBelow (λ t. getD (r .taps) t (pos 0) *ℤ getD source (heldEntry b (r .lead + t + k)) (pos 0)) (r .count))
+
+module _ (r : LiftingStep) (b : ℕ) where
+  -- the new numbers of a step, pair by pair
+  new-pairs : (A : Line) → newFit 1 (2 * b) (rows (stepOf r)) (λ row. A) ≡ allBelow b (λ k. fits32 (A (targetRow (r .even) k)))
+  unfolding newFit assigns allBelow stepOf
+  new-pairs A =
+      all-pairs (λ x. not (changes (typeOf (r .even) (r .adds)) x) || fits32 (A x)) b
+      ∙ all-same _ (λ k. fits32 (A (targetRow (r .even) k))) b (λ k inside. new-target (r .even) (r .adds) (λ x. fits32 (A x)) k)
+
+  module _ (target source : List ℤ) where
+    -- what a tap reads for entry k
+    read-entry : (k t : ℕ) → wovenBy (r .even) target source (sourceRow (r .even) b (k + r .lead + t)) ≡ getD source (heldEntry b (r .lead + t + k)) (pos 0)
+    read-entry k t =
+        let order : k + r .lead + t ≡ r .lead + t + k = omega arith in
+        rw order (woven-source (r .even) target source b (r .lead + t + k))
+
+    -- what the step makes of entry k of the half that it changes
+    lift-entry : (k : ℕ) → lift (stepOf r) (2 * b) (wovenBy (r .even) target source) (targetRow (r .even) k) ≡ newEntry r b target source k
+    lift-entry k =
+        lift-at-target r b k (wovenBy (r .even) target source)
+        ∙ rw (woven-target (r .even) target source k, sum-same _ _ (r .count) (λ t h. ap (λ (z : ℤ). getD (r .taps) t (pos 0) *ℤ z) (read-entry k t)))
+
+    -- the new numbers of the step, entry by entry
+    pub halves-new :
+        (even : Bool) → r .even ≡ even
+        → newFit 1 (2 * b) (rows (stepOf r)) (run 1 (2 * b) (rows (stepOf r)) (λ row. wovenBy even target source))
+        ≡ allBelow b (λ k. fits32 (newEntry r b target source k))
+    unfolding run
+    halves-new even same =
+        rw (← same)
+        (new-pairs (lift (stepOf r) (2 * b) (wovenBy (r .even) target source))
+        ∙ all-same _ (λ k. fits32 (newEntry r b target source k)) b (λ k inside. rw (lift-entry k)))
+
+    -- the step done: the half that it changes has the new numbers, and the other is kept
+    pub halves-lifted :
+        (even : Bool) → r .even ≡ even → (target' source' : List ℤ)
+        → ((k : ℕ) → k < b → getD target' (4 + k) (pos 0) ≡ newEntry r b target source k)
+        → ((k : ℕ) → k < b → getD source' (4 + k) (pos 0) ≡ getD source (4 + k) (pos 0))
+        → (x : ℕ) → x < 2 * b → wovenBy even target' source' x ≡ lift (stepOf r) (2 * b) (wovenBy even target source) x
+    unfolding stepOf
+    halves-lifted even same target' source' new kept =
+        rw (← same)
+        (by-targets (r .even) b (wovenBy (r .even) target' source') (lift (stepOf r) (2 * b) (wovenBy (r .even) target source))
+        (λ k inside. woven-target (r .even) target' source' k ∙ new k inside ∙ sym (lift-entry k))
+        (λ k inside.
+        woven-kept (r .even) target' source' k
+        ∙ kept k inside
+        ∙ sym (woven-kept (r .even) target source k)
+        ∙ sym (lift-keeps (stepOf r) (2 * b) (wovenBy (r .even) target source) (targetRow (not (r .even)) k) (changes-kept (r .even) (r .adds) k))))
+
+-- the place of an even column in a row that stands as two halves, and that of an odd one
+half-even : (b k : ℕ) → halfPlace b (2 * k) ≡ k
+unfolding halfPlace
+half-even b k = rw (even-test k, even-half k)
+
+half-odd : (b k : ℕ) → halfPlace b (2 * k + 1) ≡ b + k
+unfolding halfPlace
+half-odd b k = rw (odd-test k, odd-half k)
+
+-- the halves copied to the buffers are the row
+pub halves-copied :
+    (b place : ℕ) (work low high low' high' : List ℤ) → 4 + b ≤ length low → 4 + b ≤ length high
+    → low' ≡ fill low 4 b (λ k. getD work (place + k) (pos 0)) → high' ≡ fill high 4 b (λ k. getD work (place + b + k) (pos 0))
+    → (x : ℕ) → x < 2 * b → woven low' high' x ≡ getD work (place + halfPlace b x) (pos 0)
+halves-copied b place work low high low' high' lows highs even odd =
+    by-parity (λ x. woven low' high' x ≡ getD work (place + halfPlace b x) (pos 0)) b
+    (λ k inside.
+    woven-even low' high' k
+    ∙ rw (even, half-even b k) (getD-fill-in low 4 (λ k. getD work (place + k) (pos 0)) b k (pos 0) inside (omega arith)))
+    (λ k inside.
+    let order : place + b + k ≡ place + (b + k) = omega arith in
+    woven-odd low' high' k
+    ∙ rw (odd, half-odd b k, ← order) (getD-fill-in high 4 (λ k. getD work (place + b + k) (pos 0)) b k (pos 0) inside (omega arith)))
+
+-- the place of a column lies in its row
+pub half-inside : (b x : ℕ) → x < 2 * b → halfPlace b x < 2 * b
+half-inside b = by-parity (λ x. halfPlace b x < 2 * b) b (λ k h. rw (half-even b k) (omega arith)) (λ k h. rw (half-odd b k) (omega arith))
+
+-- The half that is read with its ends repeated, and the sums of the taps over it.
+module _
+    (r : LiftingStep) (b : ℕ) (target source extended sums : List ℤ) (places : List ℕ) (sane : Sane r)
+    (ends : (s : ℕ) → s < b + 8 → getD extended s (pos 0) ≡ getD source (heldEntry b s) (pos 0))
+    (placed : (t : ℕ) → t < 8 → getD places t 0 ≡ r .lead + t)
+    (summed :
+    (x : ℕ) → x < b → getD sums x (pos 0) ≡ rounding (r .scale) +ℤ sumBelow (tapAt (r .taps) places extended x) (r .count))
+  where
+    -- what a tap adds
+    tap-same : (k t : ℕ) → k < b → t < r .count → tapAt (r .taps) places extended k t ≡ getD (r .taps) t (pos 0) *ℤ getD source (heldEntry b (r .lead + t + k)) (pos 0)
+    unfolding tapAt
+    tap-same k t inside h =
+        rw (placed t (omega (arith, sane .few-taps)), ends (r .lead + t + k) (omega (arith, sane .near)))
+
+    -- what a sum makes of entry k
+    entry-same : (k : ℕ) → k < b → changed (r .adds) (r .scale) (getD target (4 + k) (pos 0)) (getD sums k (pos 0)) ≡ newEntry r b target source k
+    entry-same k inside = rw (summed k inside, sum-same (tapAt (r .taps) places extended k) _ (r .count) (λ t h. tap-same k t inside h))
+
+    -- whether the new entries fit
+    pub half-told :
+        allBelow b (λ k. fits32 (changed (r .adds) (r .scale) (getD target (4 + k) (pos 0)) (getD sums k (pos 0))))
+        ≡ allBelow b (λ k. fits32 (newEntry r b target source k))
+    half-told = all-same _ (λ k. fits32 (newEntry r b target source k)) b (λ k inside. rw (entry-same k inside))
+
+    -- the half with them
+    pub half-done :
+        (target' : List ℤ) → 4 + b ≤ length target
+        → target' ≡ fill target 4 b (λ k. changed (r .adds) (r .scale) (getD target (4 + k) (pos 0)) (getD sums k (pos 0)))
+        → (k : ℕ) → k < b → getD target' (4 + k) (pos 0) ≡ newEntry r b target source k
+    half-done target' room new k inside =
+        rw new
+        (getD-fill-in target 4 (λ k. changed (r .adds) (r .scale) (getD target (4 + k) (pos 0)) (getD sums k (pos 0))) b k (pos 0) inside (omega arith))
+        ∙ entry-same k inside
+
+-- the entries of a half stay where its ends are repeated
+pub half-kept :
+    (b : ℕ) (source extended : List ℤ)
+    → ((s : ℕ) → s < b + 8 → getD extended s (pos 0) ≡ getD source (heldEntry b s) (pos 0))
+    → (k : ℕ) → k < b → getD extended (4 + k) (pos 0) ≡ getD source (4 + k) (pos 0)
+unfolding heldEntry
+half-kept b source extended ends k inside =
+    let here : 4 + min (4 + k - 4) (b - 1) ≡ 4 + k = omega arith in
+    ends (4 + k) (omega arith) ∙ rw here

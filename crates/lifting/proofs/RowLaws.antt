@@ -1,0 +1,90 @@
+-- The laws of passes over rows: each row is lifted by itself, whatever the other rows hold and however many there are.
+-- Assumes nothing.
+use mathlib.Core.Path.{_≡_, refl, sym, ap, _∙_}
+use mathlib.Core.Bool.{Bool, true, false, not, _&&_, _||_, and-assoc, and-true}
+use mathlib.Core.List.{List, [], _∷_, _++_, map, map-append}
+use Prim.Native.Nat.{ℕ, zero, suc, _+_, _*_, _≤_, _<_}
+use native.Mathlib.Nat.{mul-suc}
+use native.Mathlib.Numerals.{add-one, add-two}
+use native.Mathlib.Omega.{arith}
+use lib.ListN.{length, getD, take, drop, take-append-drop}
+use lib.Seq.{take-suc}
+use Rattle.base.specs.Every.{allBelow}
+use Rattle.base.specs.Range.{fits32}
+use Rattle.base.proofs.Everys.{all-from, and-false}
+use Rattle.lifting.specs.Lifting.{Line, Step, lift, changes}
+use Rattle.lifting.specs.Layout.{Agree}
+use Rattle.lifting.specs.Passes.{Picture, rows, run, runAll, newFit, allNewFit, assigns}
+use Rattle.lifting.proofs.Lifts.{EvenLength, lift-same}
+use Rattle.lifting.proofs.PassLaws.{new-same}
+
+-- the order of two pairs of tests
+and-middle : (a b c d : Bool) → (a && b) && (c && d) ≡ (a && c) && (b && d)
+and-middle true true c d = refl
+and-middle true false true d = refl
+and-middle true false false d = refl
+and-middle false b c d = refl
+
+-- two tests of each number at once
+all-and : (f g : ℕ → Bool) (n : ℕ) → allBelow n (λ k. f k && g k) ≡ allBelow n f && allBelow n g
+unfolding allBelow
+all-and f g zero = refl
+all-and f g (suc n) = rw (all-and f g n) (and-middle (allBelow n f) (allBelow n g) (f n) (g n))
+
+-- a test of numbers two by two
+pub all-pairs : (f : ℕ → Bool) (n : ℕ) → allBelow (2 * n) f ≡ allBelow n (λ k. f (2 * k) && f (2 * k + 1))
+unfolding allBelow
+all-pairs f zero = refl
+all-pairs f (suc n) =
+    rw (mul-suc 2 n, add-two (2 * n), add-one (2 * n), ← all-pairs f n)
+    (and-assoc (allBelow (2 * n) f) (f (2 * n)) (f (suc (2 * n))))
+
+module _ (w : ℕ) where
+  -- a row of a picture, lifted, is the row of any picture that has the same row
+  rows-at :
+      (g h : ℕ) (steps : List Step) (P Q : Picture) (i j : ℕ) → P i ≡ Q j
+      → runAll g w (map rows steps) P i ≡ runAll h w (map rows steps) Q j
+  unfolding run runAll
+  rows-at g h [] P Q i j same = same
+  rows-at g h (s ∷ steps) P Q i j same = rows-at g h steps (run g w (rows s) P) (run h w (rows s) Q) i j (ap (lift s w) same)
+
+  -- the test of the rows' new numbers is the test of each row's
+  rows-new : (h : ℕ) (s : Step) (P : Picture) → newFit h w (rows s) P ≡ allBelow h (λ row. newFit 1 w (rows s) (λ k. P row))
+  unfolding newFit assigns allBelow
+  rows-new h s P = refl
+
+  pub rows-new-all :
+      (h : ℕ) (steps : List Step) (P : Picture)
+      → allNewFit h w (map rows steps) P ≡ allBelow h (λ row. allNewFit 1 w (map rows steps) (λ k. P row))
+  unfolding run allNewFit
+  rows-new-all h [] P = sym (all-from (λ k. true) h (λ k inside. refl))
+  rows-new-all h (s ∷ steps) P =
+      rw (rows-new h s (run h w (rows s) P), rows-new-all h steps (run h w (rows s) P))
+      (sym (all-and (λ row. newFit 1 w (rows s) (λ k. lift s w (P row))) (λ row. allNewFit 1 w (map rows steps) (λ k. lift s w (P row))) h))
+
+  -- and each row's numbers
+  pub rows-run :
+      (h : ℕ) (steps : List Step) (P : Picture) (row x : ℕ)
+      → runAll h w (map rows steps) P row x ≡ runAll 1 w (map rows steps) (λ k. P row) 0 x
+  rows-run h steps P row x = ap (λ (A : Line). A x) (rows-at h 1 steps P (λ k. P row) row 0 refl)
+
+-- Pictures of any height that agree, their rows being lifted.
+module _ (h w : ℕ) (wide : EvenLength w) where
+  -- they agree after a step
+  pub rows-same : (s : Step) (P Q : Picture) → Agree h w P Q → Agree h w (run h w (rows s) P) (run h w (rows s) Q)
+  unfolding run
+  rows-same s P Q same row column r c = lift-same w wide s (P row) (Q row) (λ k inside. same row k r inside) column c
+
+  -- and after steps
+  pub rows-run-same : (steps : List Step) (P Q : Picture) → Agree h w P Q → Agree h w (runAll h w (map rows steps) P) (runAll h w (map rows steps) Q)
+  unfolding runAll
+  rows-run-same [] P Q same = same
+  rows-run-same (s ∷ steps) P Q same = rows-run-same steps (run h w (rows s) P) (run h w (rows s) Q) (rows-same s P Q same)
+
+  -- and the new numbers of steps fit alike
+  pub rows-fit-same : (steps : List Step) (P Q : Picture) → Agree h w P Q → allNewFit h w (map rows steps) P ≡ allNewFit h w (map rows steps) Q
+  unfolding allNewFit
+  rows-fit-same [] P Q same = refl
+  rows-fit-same (s ∷ steps) P Q same =
+      let after = rows-same s P Q same in
+      rw (new-same h w (rows s) (run h w (rows s) P) (run h w (rows s) Q) after, rows-fit-same steps (run h w (rows s) P) (run h w (rows s) Q) after)

@@ -1,0 +1,95 @@
+-- What ties the table of filters to document 01's, entry by entry, and the rounding of a scale.
+-- Assumes nothing.
+use mathlib.Core.Path.{_≡_, refl, ap}
+use mathlib.Core.Bool.{Bool, true, _&&_}
+use Prim.Native.Nat.{ℕ, zero, suc, _+_, _-_, _*_, _%_, _^_, _≤_, _<_}
+use native.Mathlib.Nat.{one-mul, mod-eq-of-lt}
+use native.Mathlib.Omega.{arith}
+use lib.Dec.{leb, lit≤}
+use lib.IntN.{ℤ, pos, natAbs}
+use lib.ListN.{getD}
+use lib.Pow.{pow-lt}
+use mir.Syntax.{w64}
+use mir.Val.{toZ, ofZ}
+use borrow.Author.Tests.{leb-true}
+use Rattle.base.specs.Every.{allBelow}
+use Rattle.base.proofs.Everys.{and-left, and-right, all-at}
+use Rattle.base.proofs.Magnitudes.{mag-size}
+use Rattle.base.proofs.Ranges.{back}
+use Rattle.lifting.specs.Lifting.{Step, rounding}
+use Rattle.lifting.specs.Filters.{filterOf}
+use Rattle.lifting.specs.Table.{stepOf, Sane}
+use Rattle.lifting.specs.declared.filters.LiftingStep.{LiftingStep}
+
+-- a number below two, four or seven is one of them
+pub two : {P : Type 0} (n : ℕ) → n < 2 → (n ≡ 0 → P) → (n ≡ 1 → P) → P
+two zero h p0 p1 = p0 refl
+two (suc zero) h p0 p1 = p1 refl
+two (suc (suc n)) h p0 p1 = absurd (omega arith)
+
+pub four : {P : Type 0} (n : ℕ) → n < 4 → (n ≡ 0 → P) → (n ≡ 1 → P) → (n ≡ 2 → P) → (n ≡ 3 → P) → P
+four zero h p0 p1 p2 p3 = p0 refl
+four (suc zero) h p0 p1 p2 p3 = p1 refl
+four (suc (suc zero)) h p0 p1 p2 p3 = p2 refl
+four (suc (suc (suc zero))) h p0 p1 p2 p3 = p3 refl
+four (suc (suc (suc (suc n)))) h p0 p1 p2 p3 = absurd (omega arith)
+
+pub seven :
+    {P : Type 0} (n : ℕ) → n ≤ 6
+    → (n ≡ 0 → P) → (n ≡ 1 → P) → (n ≡ 2 → P) → (n ≡ 3 → P) → (n ≡ 4 → P) → (n ≡ 5 → P) → (n ≡ 6 → P) → P
+seven zero h p0 p1 p2 p3 p4 p5 p6 = p0 refl
+seven (suc zero) h p0 p1 p2 p3 p4 p5 p6 = p1 refl
+seven (suc (suc zero)) h p0 p1 p2 p3 p4 p5 p6 = p2 refl
+seven (suc (suc (suc n))) h p0 p1 p2 p3 p4 p5 p6 =
+    four n (omega arith) (λ e. p3 (ap (λ m. suc (suc (suc m))) e)) (λ e. p4 (ap (λ m. suc (suc (suc m))) e))
+    (λ e. p5 (ap (λ m. suc (suc (suc m))) e)) (λ e. p6 (ap (λ m. suc (suc (suc m))) e))
+
+-- The test of a step's sizes.
+abbrev pub saneTest : LiftingStep → Bool
+saneTest r =
+    (leb (r .count) 8 && leb (r .lead + r .count) 9)
+    && (leb (r .scale) 12 && allBelow 8 (λ t. leb (natAbs (getD (r .taps) t (pos 0))) (2 ^ 13)))
+
+-- what it says
+sane : (r : LiftingStep) → saneTest r ≡ true → Sane r
+sane r e =
+    let front = and-left (leb (r .count) 8 && leb (r .lead + r .count) 9) _ e in
+    let rest = and-right (leb (r .count) 8 && leb (r .lead + r .count) 9) _ e in
+    record {
+      few-taps = leb-true (r .count) 8 (and-left (leb (r .count) 8) _ front);
+      near = leb-true (r .lead + r .count) 9 (and-right (leb (r .count) 8) _ front);
+      small-scale = leb-true (r .scale) 12 (and-left (leb (r .scale) 12) _ rest);
+      small-taps = λ t h. leb-true _ (2 ^ 13) (all-at (λ t. leb (natAbs (getD (r .taps) t (pos 0))) (2 ^ 13)) 8 t (and-right (leb (r .scale) 12) _ rest) h);
+    }
+
+-- An entry of the table is step k of the filter of a wavelet index, and its sizes are in their bounds: how that is shown, and what it says.
+pub record Entry (wavelet k : ℕ) (r : LiftingStep) : Type 0 where
+  pub same : (other : Step) → getD (filterOf wavelet .steps) k other ≡ stepOf r
+  pub passes : saneTest r ≡ true
+
+pub entry : {wavelet k : ℕ} {r : LiftingStep} → ((other : Step) → getD (filterOf wavelet .steps) k other ≡ stepOf r) → saneTest r ≡ true → Entry wavelet k r
+entry same passes = record { same = same; passes = passes }
+
+pub entry-says : (wavelet k : ℕ) (r : LiftingStep) → Entry wavelet k r → (getD (filterOf wavelet .steps) k (stepOf r) ≡ stepOf r) × Sane r
+entry-says wavelet k r entry = (entry .same (stepOf r), sane r (entry .passes))
+
+-- a small power of two, as the code makes it, and as document 01 says it
+pub power-small : (x : ℕ) → x < 12 → 2 ^ x < 2 ^ 12
+power-small x h = pow-lt h
+
+pub shifted-one : (x : ℕ) → x < 12 → 1 * 2 ^ x % 2 ^ 64 ≡ 2 ^ x
+shifted-one x h = rw one-mul (mod-eq-of-lt (omega (arith, power-small x h)))
+
+pub rounding-power : (s : ℕ) → 1 ≤ s → rounding s ≡ pos (2 ^ (s - 1))
+unfolding rounding
+rounding-power zero h = absurd (omega arith)
+rounding-power (suc s) h = ap (λ n. pos (2 ^ n)) (omega arith)
+
+-- the rounding of a scale is small, and so it is what its bits say
+pub rounding-small : (s : ℕ) → s ≤ 12 → natAbs (rounding s) ≤ 2 ^ 44
+unfolding rounding
+rounding-small zero h = lit≤ tt
+rounding-small (suc s) h = omega (arith, power-small s h)
+
+pub rounding-back : (s : ℕ) (z : ℤ) → s ≤ 12 → z ≡ rounding s → toZ w64 (ofZ w64 z) ≡ rounding s
+rounding-back s z h e = rw e (back w64 (rounding s) (omega (arith, mag-size (rounding s), rounding-small s h)))

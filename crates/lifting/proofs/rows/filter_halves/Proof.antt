@@ -1,0 +1,113 @@
+-- `lifting::rows::filter_halves` meets its contract: after k turns the row is what the first k steps make of it, and their new numbers fit.
+-- Assumes nothing.
+use mathlib.Core.Path.{_≡_, refl, sym, ap, _∙_}
+use mathlib.Core.Bool.{true, false≢true}
+use mathlib.Core.List.{map}
+use Prim.Native.Nat.{ℕ, _-_, _*_, _≤_, _<_}
+use native.Mathlib.Omega.{arith}
+use borrow.Author.Needs.{needs}
+use borrow.Author.Tests.{not-true, not-false}
+use lib.ListN.{length, getD, take, length-map, List·getD-map}
+use lib.Seq.{take-all}
+use Rattle.lines.specs.Buffers.{woven}
+use Rattle.lifting.specs.Filters.{filterOf}
+use Rattle.lifting.specs.Layout.{Agree}
+use Rattle.lifting.specs.Passes.{rows, run, runAll, allNewFit}
+use Rattle.lifting.specs.Table.{stepOf}
+use Rattle.lifting.proofs.PassLaws.{passes-more, passes-stop}
+use Rattle.lifting.proofs.PairLaws.{twice-length}
+use Rattle.lifting.proofs.RowLaws.{rows-same}
+use Rattle.lifting.proofs.rows.filter_halves.Statement.{statement}
+use Rattle.lifting.proofs.rows.filter_halves.Tie as tie
+
+abbrev Inv-loop : tie.InvT-loop
+Inv-loop low₀ high₀ sums₀ half wavelet count k₀ low high sums k =
+    let passes = take k (map rows (filterOf wavelet .steps)) in
+    (k ≤ count)
+    × (allNewFit 1 (2 * half) passes (λ row. woven low₀ high₀) ≡ true)
+    × Agree 1 (2 * half) (λ row. woven low high) (runAll 1 (2 * half) passes (λ row. woven low₀ high₀))
+
+abbrev μ-loop : tie.MeasureT-loop
+μ-loop low₀ high₀ sums₀ half wavelet count k₀ low high sums k = count - k
+
+step-count-requires : tie.Need-step-count-requires Inv-loop μ-loop
+step-count-requires c κs = search needs
+
+loop-holds : tie.Need-loop-holds Inv-loop μ-loop
+unfolding runAll allNewFit
+loop-holds c = (omega arith, refl, λ row x r h. refl)
+
+step-at-requires : tie.Need-step-at-requires Inv-loop μ-loop
+step-at-requires c κs = (c .before .before .before .pre .2, rw (← c .before .before .step-count .ensures) (c .loop-test .taken))
+
+lift-halves-requires : tie.Need-lift-halves-requires Inv-loop μ-loop
+lift-halves-requires c κs =
+    let turn = c .before .before .before in
+    let start = turn .before .before .before .before in
+    (start .pre .0, start .pre .1, turn .step-at .ensures .1)
+
+-- the step is the next pass of the filter
+inside : (c : tie.After-step-at Inv-loop μ-loop) → c .before .before .loop .k < length (map rows (filterOf (c .before .before .before .before .args .wavelet) .steps))
+inside c = rw (length-map, ← c .before .before .before .step-count .ensures) (c .before .loop-test .taken)
+
+next :
+    (c : tie.After-step-at Inv-loop μ-loop)
+    → let pass = rows (stepOf (c .step-at .result)) in
+    getD (map rows (filterOf (c .before .before .before .before .args .wavelet) .steps)) (c .before .before .loop .k) pass ≡ pass
+next c =
+    List·getD-map rows (filterOf (c .before .before .before .before .args .wavelet) .steps) (c .before .before .loop .k) (stepOf (c .step-at .result))
+    ∙ ap rows (c .step-at .ensures .0)
+
+returns : tie.Need-returns Inv-loop μ-loop
+returns c =
+    let step = c .before .before .before .before .before in
+    let head = step .before .before in
+    let same = rows-same _ _ (twice-length _ (head .before .before .pre .0)) (stepOf (step .step-at .result)) in (
+      sym
+          (passes-stop _ _ _ (head .loop .k) _ _ _ (inside step) (next step) same (head .loop .inv .1) (head .loop .inv .2)
+          (sym (c .before .lift-halves .ensures .0) ∙ not-true _ (c .if1 .taken))),
+      λ wrong. absurd (false≢true wrong),
+    )
+
+add-k : tie.Need-add-k Inv-loop μ-loop
+add-k c = omega (arith, c .before .before .before .before .before .before .loop-test .taken)
+
+loop-less : tie.Need-loop-less Inv-loop μ-loop
+loop-less c = omega (arith, c .before .before .before .before .before .before .loop-test .taken)
+
+loop-again : tie.Need-loop-again Inv-loop μ-loop
+unfolding run
+loop-again c =
+    let step = c .before .before .before .before .before in
+    let head = step .before .before in
+    let went = not-false _ (c .if1 .left) in
+    let same = rows-same _ _ (twice-length _ (head .before .before .pre .0)) (stepOf (step .step-at .result)) in
+    let more =
+    passes-more _ _ _ (head .loop .k) _ _ _ (inside step) (next step) same (head .loop .inv .1) (head .loop .inv .2) _
+    (sym (c .before .lift-halves .ensures .0) ∙ went) (λ row x r h. c .before .lift-halves .ensures .1 went x h)
+    in
+    (omega (arith, step .before .loop-test .taken), more .0, more .1)
+
+returns-2 : tie.Need-returns-2 Inv-loop μ-loop
+returns-2 c =
+    let steps = filterOf (c .before .before .before .args .wavelet) .steps in
+    let all : take (c .before .loop .k) (map rows steps) ≡ map rows steps =
+    take-all (c .before .loop .k) (map rows steps) (rw (length-map, ← c .before .before .step-count .ensures) (c .loop-test .left))
+    in
+    (sym (rw all at (c .before .loop .inv .1)), λ fits x h. (rw all at (c .before .loop .inv .2)) 0 x (omega arith) h)
+
+pub filter-halves-spec : {M : Type 1} → statement M
+filter-halves-spec =
+    tie.close
+    (tie.spec
+    Inv-loop
+    μ-loop
+    step-count-requires
+    loop-holds
+    step-at-requires
+    lift-halves-requires
+    returns
+    add-k
+    loop-less
+    loop-again
+    returns-2)

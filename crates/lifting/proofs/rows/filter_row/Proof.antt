@@ -1,0 +1,110 @@
+-- `lifting::rows::filter_row` meets its contract: the buffers hold the row's halves, what the steps make of them is woven back.
+-- Assumes nothing.
+use mathlib.Core.Path.{_≡_, sym, _∙_, subst}
+use mathlib.Core.Bool.{true, false≢true}
+use mathlib.Core.List.{map}
+use Prim.Native.Nat.{ℕ, _+_, _*_, _<_}
+use native.Mathlib.Omega.{arith}
+use borrow.Author.Tests.{not-true, not-false}
+use lib.IntN.{ℤ, pos}
+use lib.ListN.{getD}
+use Rattle.base.specs.Range.{fits32}
+use Rattle.lines.specs.Buffers.{woven}
+use Rattle.lifting.specs.Filters.{filterOf}
+use Rattle.lifting.specs.Passes.{rows, allNewFit}
+use Rattle.lifting.specs.Layout.{halfPlace}
+use Rattle.lifting.proofs.HalfLaws.{halves-copied}
+use Rattle.lifting.proofs.PlaneRows.{halfRow, row-told, row-entry, row-woven}
+use borrow.Author.Needs.{needs}
+use Rattle.lifting.proofs.rows.filter_row.Statement.{statement}
+use Rattle.lifting.proofs.rows.filter_row.Tie as tie
+
+copy-requires : tie.Need-copy-requires
+copy-requires c κs = search needs
+
+add-copy : tie.Need-add-copy
+add-copy c = search needs
+
+copy-requires-2 : tie.Need-copy-requires-2
+copy-requires-2 c κs = search needs
+
+filter-halves-requires : tie.Need-filter-halves-requires
+filter-halves-requires c κs = search needs
+
+same-length : tie.Need-same-length
+same-length c = search needs
+
+-- the buffers hold the row's halves
+copied :
+    (c : tie.After-copy2) (x : ℕ)
+    → let start = c .before .before .before .before .before .before in
+    x < 2 * start .args .half
+    → woven (c .before .before .before .copy .last .0) (c .copy2 .last .0) x ≡ getD (start .args .work .now) (start .args .place + halfPlace (start .args .half) x) (pos 0)
+copied c =
+    let first = c .before .before .before in
+    let start = first .before .before .before in
+    halves-copied (start .args .half) (start .args .place) (start .args .work .now) (start .args .low .now) (start .args .high .now) _ _ (omega arith) (omega arith)
+    (first .copy .ensures) (c .copy2 .ensures)
+
+-- whether the row's new numbers fit
+told :
+    (c : tie.After-filter-halves)
+    → let start = c .before .before .before .before .before .before .before .before .before .before in
+    c .filter-halves .result
+    ≡ allNewFit 1 (2 * start .args .half) (map rows (filterOf (start .args .wavelet) .steps)) (halfRow (start .args .half) (start .args .place) (start .args .work .now))
+told c =
+    let second = c .before .before .before .before in
+    let start = second .before .before .before .before .before .before in
+    c .filter-halves .ensures .0
+    ∙ row-told (filterOf (start .args .wavelet) .steps) (filterOf (start .args .wavelet) .shift) (start .args .half) (start .args .place) (start .pre .0) (start .args .work .now)
+    (second .before .before .before .copy .last .0) (second .copy2 .last .0) (copied second)
+
+returns : tie.Need-returns
+returns c = (sym (not-true _ (c .if1 .taken)) ∙ told (c .before), (λ wrong. absurd (false≢true wrong), λ wrong. absurd (false≢true wrong)))
+
+has-shift-requires : tie.Need-has-shift-requires
+has-shift-requires c κs = search needs
+
+weave-requires : tie.Need-weave-requires
+weave-requires c κs = search needs
+
+same-length-2 : tie.Need-same-length-2
+same-length-2 c = search needs
+
+returns-2 : tie.Need-returns-2
+returns-2 c =
+    let filtered = c .before .before .before .before .before .before .before in
+    let second = filtered .before .before .before .before in
+    let start = second .before .before .before .before .before .before in
+    let went = not-false _ (c .before .before .before .before .before .before .if1 .left) in
+    let woven-is = c .before .weave .ensures in
+    let asked = c .before .before .has-shift in (
+      sym went ∙ told filtered,
+      (
+        λ fits. woven-is .0
+            ∙ row-woven (filterOf (start .args .wavelet) .steps) (filterOf (start .args .wavelet) .shift) (start .args .half) (start .args .place) (start .pre .0) (start .args .work .now)
+            (second .before .before .before .copy .last .0) (second .copy2 .last .0) (copied second)
+            (asked .result) _ _ (asked .ensures) (filtered .filter-halves .ensures .1 went),
+        λ fits x inside.
+            subst (λ (v : ℤ). fits32 v ≡ true)
+            (row-entry (filterOf (start .args .wavelet) .steps) (filterOf (start .args .wavelet) .shift) (start .args .half) (start .args .place) (start .pre .0) (start .args .work .now)
+            (second .before .before .before .copy .last .0) (second .copy2 .last .0) (copied second)
+            (asked .result) _ _ (asked .ensures) (filtered .filter-halves .ensures .1 went) x inside)
+            (woven-is .1 x inside),
+      ),
+    )
+
+pub filter-row-spec : {M : Type 1} → statement M
+filter-row-spec =
+    tie.close
+    (tie.spec
+    copy-requires
+    add-copy
+    copy-requires-2
+    filter-halves-requires
+    same-length
+    returns
+    has-shift-requires
+    weave-requires
+    same-length-2
+    returns-2)

@@ -1,0 +1,56 @@
+-- `lifting::rows::line_places` meets its contract: after t turns the first t places are stored.
+-- Assumes nothing.
+use mathlib.Core.Path.{_≡_, sym}
+use Prim.Native.Nat.{_+_, _-_, _≤_}
+use native.Mathlib.Omega.{arith}
+use Rattle.base.specs.Fill.{fill}
+use Rattle.base.proofs.Fills.{fill-none, fill-more, getD-fill-start}
+use Rattle.lifting.proofs.rows.line_places.Statement.{statement}
+use Rattle.lifting.proofs.rows.line_places.Tie as tie
+
+abbrev Inv-loop : tie.InvT-loop
+Inv-loop lead places₀ t₀ places t = (t ≤ 8) × (places ≡ fill places₀ 0 t (λ k. lead + k))
+
+abbrev μ-loop : tie.MeasureT-loop
+μ-loop lead places₀ t₀ places t = 8 - t
+
+loop-holds : tie.Need-loop-holds Inv-loop μ-loop
+loop-holds c = (omega arith, sym (fill-none _ 0 _))
+
+add-places : tie.Need-add-places Inv-loop μ-loop
+add-places c = omega arith
+
+mul-places : tie.Need-mul-places Inv-loop μ-loop
+mul-places c = omega arith
+
+array-write-places : tie.Need-array-write-places Inv-loop μ-loop
+array-write-places c = omega arith
+
+add-t : tie.Need-add-t Inv-loop μ-loop
+add-t c = omega arith
+
+loop-less : tie.Need-loop-less Inv-loop μ-loop
+loop-less c = omega arith
+
+loop-again : tie.Need-loop-again Inv-loop μ-loop
+loop-again c = (omega arith, rw (c .before .loop .inv .1) (fill-more _ 0 _ _ _ (omega arith)))
+
+returns : tie.Need-returns Inv-loop μ-loop
+returns c t below =
+    let all : c .before .loop .t ≡ 8 = omega arith in
+    rw (c .before .loop .inv .1, all) (getD-fill-start _ _ 8 t 0 below below)
+
+pub line-places-spec : {M : Type 1} → statement M
+line-places-spec =
+    tie.close
+    (tie.spec
+    Inv-loop
+    μ-loop
+    loop-holds
+    add-places
+    mul-places
+    array-write-places
+    add-t
+    loop-less
+    loop-again
+    returns)
