@@ -5,15 +5,18 @@
 //!
 //! The three jobs are [`unpack()`], [`synthesise`] and [`decode`]; [`analyse`] is the forward
 //! transform; [`mod@encode`] makes bodies for tests; [`recording`] reads and writes recordings;
-//! [`jobs`] is the command's plain text job format.
+//! [`jobs`] is the command's plain text job format; [`vectors`] makes stored vectors for synthesise,
+//! with the generator [`random`].
 
 pub mod codes;
 pub mod encode;
 pub mod jobs;
 pub mod params;
+pub mod random;
 pub mod recording;
 pub mod transform;
 pub mod unpack;
+pub mod vectors;
 
 pub use encode::{encode_body, quantise, quantise_plane, EncodeOptions, Rounding, SubbandOptions};
 pub use params::{Answer, Parameters};

@@ -1,13 +1,15 @@
-//! The command: decodes a recording, or answers the jobs of a text file.
+//! The command: decodes a recording, answers the jobs of a text file, or writes stored vectors.
 
 use std::io::Write;
 use std::process::ExitCode;
 
-const USAGE: &str = "usage: reference COMMAND FILE
+const USAGE: &str = "usage: reference COMMAND FILE..
 
   reference decode FILE    print what a recording decodes to
   reference jobs FILE      answer the unpack, synthesise and decode jobs of a text file
   reference analyse FILE   answer the analyse jobs of a text file
+  reference synthesis-vectors STDIN_FILE STDOUT_FILE
+                           write the input of crates/synthesis_vectors and the output it owes
 
 A job file has one job a line; # starts a comment:
 
@@ -21,10 +23,10 @@ A job file has one job a line; # starts a comment:
 Numbers are decimal; BYTES is hexadecimal, or - for none. A and D are codeblocks
 across and down at levels 0 to 4. Planes start filled with 7.
 
-Exit status: 0 done, 1 a file cannot be read, 2 a wrong command line.
+Exit status: 0 done, 1 a file cannot be read or written, 2 a wrong command line.
 ";
 
-/// Runs the command; the exit status is 0, 1 (cannot read) or 2 (usage).
+/// Runs the command; the exit status is 0, 1 (cannot read or write) or 2 (usage).
 fn main() -> ExitCode {
     // A word that isn't text stands for no command and names no file.
     let arguments: Vec<String> = std::env::args_os()
@@ -37,6 +39,7 @@ fn main() -> ExitCode {
         ["decode", file] => read(file).map(|bytes| reference::read_recording(&bytes)),
         ["jobs", file] => run(file, reference::jobs::run_jobs),
         ["analyse", file] => run(file, reference::jobs::run_analyses),
+        ["synthesis-vectors", stdin, stdout] => write_vectors(stdin, stdout),
         _ => {
             eprint!("{USAGE}");
             return ExitCode::from(2);
@@ -66,4 +69,16 @@ fn run(file: &str, jobs: fn(&str) -> Result<String, String>) -> Result<String, S
     let bytes = read(file)?;
     let text = String::from_utf8(bytes).map_err(|_| format!("{file}: not text"))?;
     jobs(&text).map_err(|error| format!("{file}: {error}"))
+}
+
+/// Writes the stored vectors' input and output, and prints nothing; or why a file cannot be written.
+fn write_vectors(stdin: &str, stdout: &str) -> Result<String, String> {
+    let vectors = reference::vectors::synthesis_vectors();
+    for (file, bytes) in [
+        (stdin, &vectors.input[..]),
+        (stdout, vectors.output.as_bytes()),
+    ] {
+        std::fs::write(file, bytes).map_err(|error| format!("{file}: {error}"))?;
+    }
+    Ok(String::new())
 }

@@ -269,7 +269,7 @@ impl Grid {
     }
 
     /// A subband's numbers, this grid being a coefficient plane.
-    fn subband(&self, band: &Subband) -> Grid {
+    pub fn subband(&self, band: &Subband) -> Grid {
         let mut numbers = Grid::new(band.width, band.height);
         for y in 0..band.height {
             for x in 0..band.width {

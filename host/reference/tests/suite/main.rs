@@ -8,5 +8,6 @@ mod recordings;
 mod refusals;
 mod round_trips;
 mod stated_values;
+mod synthesis_vectors;
 mod vectors;
 mod worked_case;

@@ -265,7 +265,7 @@ fn written_recordings_parse_back() {
             let length = random.range(0, 100);
             entries.push(Entry {
                 parameters: p,
-                body: (0..length).map(|_| random.next() as u8).collect(),
+                body: (0..length).map(|_| random.bits() as u8).collect(),
             });
         }
         assert_eq!(parse(&write_recording(&entries)), Some(entries));

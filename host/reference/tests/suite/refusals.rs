@@ -327,10 +327,10 @@ fn decode_is_unpack_then_synthesise() {
             let length = random.pick(&[0, 1, 8, 20, 50]);
             let data: Vec<u8> = (0..length)
                 .map(|_| match kind {
-                    0 => (random.next() | random.next()) as u8,
-                    1 => (random.next() & random.next()) as u8,
-                    2 => (random.next() & random.next() & random.next()) as u8,
-                    _ => random.next() as u8,
+                    0 => (random.bits() | random.bits()) as u8,
+                    1 => (random.bits() & random.bits()) as u8,
+                    2 => (random.bits() & random.bits() & random.bits()) as u8,
+                    _ => random.bits() as u8,
                 })
                 .collect();
             if random.range(0, 20) == 0 {

@@ -241,7 +241,7 @@ fn random_options(random: &mut Random, indices: &[u32]) -> EncodeOptions {
         flag_zero_codeblocks: random.flag(),
         drop_trailing_ones: random.flag(),
         slack: (0..random.pick(&[0, 0, 1, 3]))
-            .map(|_| random.next() as u8)
+            .map(|_| random.bits() as u8)
             .collect(),
         fill: random.flag(),
         stated_length: None,

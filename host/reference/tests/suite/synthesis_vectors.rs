@@ -1,0 +1,94 @@
+//! The stored vectors of the proved program `synthesis_vectors`.
+
+use crate::common::answer;
+use reference::params::padded_area;
+use reference::vectors::{level_end_fits, run, synthesis_jobs, synthesis_vectors, Job};
+use reference::Answer;
+use std::path::{Path, PathBuf};
+use std::process::Command;
+
+/// The program's folder.
+fn folder() -> PathBuf {
+    Path::new(env!("CARGO_MANIFEST_DIR")).join("../../crates/synthesis_vectors")
+}
+
+/// Fails unless a file has these bytes.
+fn assert_stored(file: &Path, bytes: &[u8]) {
+    let stored = std::fs::read(file).unwrap();
+    assert!(stored == bytes, "{} differs", file.display());
+}
+
+#[test]
+fn stored_vectors_are_those_of_the_reference() {
+    let vectors = synthesis_vectors();
+    assert_stored(&folder().join("stdin"), &vectors.input);
+    assert_stored(&folder().join("stdout"), vectors.output.as_bytes());
+}
+
+#[test]
+fn the_command_writes_the_vectors() {
+    let [stdin, stdout] = ["vectors.stdin", "vectors.stdout"]
+        .map(|name| PathBuf::from(env!("CARGO_TARGET_TMPDIR")).join(name));
+    let write = |stdin: &Path, stdout: &Path| {
+        Command::new(env!("CARGO_BIN_EXE_reference"))
+            .arg("synthesis-vectors")
+            .args([stdin, stdout])
+            .output()
+            .unwrap()
+    };
+    let output = write(&stdin, &stdout);
+    assert_eq!(output.status.code(), Some(0));
+    assert!(output.stdout.is_empty() && output.stderr.is_empty());
+    let vectors = synthesis_vectors();
+    assert_stored(&stdin, &vectors.input);
+    assert_stored(&stdout, vectors.output.as_bytes());
+    let output = write(&stdin.join("no folder"), &stdout);
+    assert_eq!(output.status.code(), Some(1));
+    assert!(!output.stderr.is_empty());
+}
+
+#[test]
+fn every_kind_of_job_is_there() {
+    let jobs: Vec<(Job, Answer)> = synthesis_jobs()
+        .into_iter()
+        .map(|job| {
+            let answer = run(&job).0;
+            (job, answer)
+        })
+        .collect();
+    let count = |kind: &dyn Fn(&Job, Answer) -> bool| {
+        jobs.iter().filter(|(job, given)| kind(job, *given)).count()
+    };
+    for wavelet in 0..7 {
+        let of = |job: &Job| job.parameters.wavelet == wavelet;
+        for depth in 0..=4 {
+            let accepted = count(&|job, given| {
+                of(job) && job.parameters.depth == depth && given == answer(0, 0)
+            });
+            assert!(accepted >= 7, "wavelet {wavelet} depth {depth}");
+        }
+        for level in 1..=4 {
+            let refused = count(&|job, given| {
+                of(job) && job.parameters.depth == 4 && given == answer(10, level)
+            });
+            assert!(refused > 0, "wavelet {wavelet} level {level}");
+        }
+        let out_and_back = count(&|job, given| {
+            of(job) && job.parameters.depth == 1 && given == answer(10, 1) && level_end_fits(job)
+        });
+        assert!(out_and_back > 0, "wavelet {wavelet}");
+    }
+    assert_eq!(count(&|_, given| given == answer(3, 0)), 2);
+    // The extremes pass where nothing is assigned.
+    let untouched = count(&|job, given| {
+        let extreme = |&c: &i32| c == i32::MIN || c == i32::MAX;
+        job.parameters.depth == 0 && given == answer(0, 0) && job.coefficients.iter().all(extreme)
+    });
+    assert!(untouched >= 7);
+    // No plane is above what the program has room for.
+    let largest = jobs
+        .iter()
+        .map(|(job, _)| padded_area(&job.parameters))
+        .max();
+    assert_eq!(largest, Some(65536));
+}
