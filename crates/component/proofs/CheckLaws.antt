@@ -6,9 +6,10 @@ use Prim.Native.Nat.{ℕ, suc, _+_, _*_, _≤_, _<_}
 use native.Mathlib.Nat.{mul-le-mul}
 use native.Mathlib.Omega.{arith}
 use lib.Dec.{leb}
+use lib.ListN.{getD}
 use borrow.Author.Tests.{leb-true}
-use Rattle.base.proofs.Everys.{and-left, and-right}
-use Rattle.component.specs.Checks.{inRange, unpacks, transforms, sizesInRange, depthInRange, waveletInRange, codeblocksInRange, planesFit, areaOf, refusalOf}
+use Rattle.base.proofs.Everys.{and-left, and-right, all-at}
+use Rattle.component.specs.Checks.{inRange, unpacks, transforms, sizesInRange, depthInRange, waveletInRange, countsInRange, codeblocksInRange, planesFit, areaOf, refusalOf}
 use Rattle.component.specs.Sizes.{paddedSize}
 use Rattle.component.specs.declared.parameters.Parameters.{Parameters}
 use Rattle.component.specs.declared.parameters.Lengths.{Lengths}
@@ -61,6 +62,29 @@ module _ (p : Parameters) where
 
   pub samples-most : sizesInRange p ≡ true → p .width * p .height ≤ 16777216
   samples-most sizes = mul-le-mul (width-most sizes) (height-most sizes)
+
+-- the codeblock counts of a level up to the depth
+pub record Counts (across down : ℕ) : Type 0 where
+  pub across-least : 1 ≤ across
+  pub across-most : across ≤ 255
+  pub down-least : 1 ≤ down
+  pub down-most : down ≤ 255
+
+pub counts-at : (p : Parameters) → codeblocksInRange p ≡ true → (level : ℕ) → level ≤ p .depth →
+    Counts (getD (p .«codeblocks_across») level 0) (getD (p .«codeblocks_down») level 0)
+unfolding codeblocksInRange countsInRange
+counts-at p all level low =
+    let a = getD (p .«codeblocks_across») level 0 in
+    let d = getD (p .«codeblocks_down») level 0 in
+    let both = all-at (countsInRange p) (suc (p .depth)) level all (omega arith) in
+    let first = and-left (inRange 1 255 a) (inRange 1 255 d) both in
+    let second = and-right (inRange 1 255 a) (inRange 1 255 d) both in
+    record {
+      across-least = range-least 1 255 a first;
+      across-most = range-most 1 255 a first;
+      down-least = range-least 1 255 d second;
+      down-most = range-most 1 255 d second;
+    }
 
 -- five checks, the first that applies giving its number: what each answer says of them
 chain : Bool → Bool → Bool → Bool → Bool → ℕ

@@ -89,3 +89,13 @@ pub sizeAt-rest : (size m n : ℕ) → m ≤ n → sizeAt size m * 2 ^ (n - m) �
 sizeAt-rest size m n h =
     let whole : m + (n - m) ≡ n = omega arith in
     rw (sizeAt-power size m, sizeAt-power size n, mul-assoc size (2 ^ m) (2 ^ (n - m)), ← pow-add 2 m (n - m), whole)
+
+-- one doubling more
+pub sizeAt-double : (size n : ℕ) → sizeAt size (suc n) ≡ 2 * sizeAt size n
+unfolding sizeAt
+sizeAt-double size n = refl
+
+-- the low band is no larger than the padded size
+pub low-most : (depth size : ℕ) → bandSize depth (paddedSize depth size) 0 ≤ paddedSize depth size
+unfolding sizeAt
+low-most depth size = omega (arith, sizeAt-mono (bandSize depth (paddedSize depth size) 0) 0 depth (omega arith), sizeAt-padded depth size)

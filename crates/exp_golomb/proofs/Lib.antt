@@ -2,3 +2,4 @@
 pub mod BitLaws
 pub mod CodeLaws
 pub mod WorkedExamples
+pub mod Extent

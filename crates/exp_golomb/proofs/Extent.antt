@@ -1,0 +1,139 @@
+-- How far a number code reaches: its places stay within the data and within 63 bits, so what lies further on does not matter.
+-- Assumes nothing.
+use mathlib.Core.Path.{_≡_, refl, sym, ap, _∙_, subst}
+use mathlib.Core.Bool.{Bool, true, false, cond}
+use mathlib.Core.List.{List}
+use Prim.Native.Nat.{ℕ, zero, suc, _+_, _-_, _*_, _≤_, _<_, min}
+use native.Mathlib.Decide.{ℕ-discrete}
+use native.Mathlib.Omega.{arith}
+use lib.Dec.{eqb}
+use lib.ListN.{length}
+use borrow.Author.Tests.{eq-eqb, ne-eqb}
+use Rattle.exp_golomb.specs.Bits.{present, takeBit}
+use Rattle.exp_golomb.specs.Codes.{onBit, codeFrom, unsigned}
+use Rattle.exp_golomb.specs.declared.bits.Bit.{Bit}
+use Rattle.exp_golomb.specs.declared.bits.Bit.the-variants.{Taken, Absent}
+use Rattle.exp_golomb.specs.declared.codes.Number.{Number}
+use Rattle.exp_golomb.specs.declared.codes.Number.the-variants.{Read, Missing, TooLong}
+use Rattle.exp_golomb.proofs.BitLaws.{BitTaken, taken}
+use Rattle.exp_golomb.proofs.CodeLaws.{code-missing, code-ends, code-too-long, code-cut, code-goes-on}
+
+-- The place that an answer carries.
+unfoldable pub nextOf : Number → ℕ
+nextOf (Read size minus next) = next
+nextOf (Missing next) = next
+nextOf (TooLong next) = next
+
+-- what taking a bit can find
+takes : (P : Type 0) (b : Bit) → ((bit next : ℕ) → b ≡ Taken bit next → P) → (b ≡ Absent → P) → P
+takes P (Taken bit next) yes-bit no-bit = yes-bit bit next refl
+takes P Absent yes-bit no-bit = no-bit refl
+
+-- A place within reach of a code of so many data bits that starts at place i, in data that end at `last`.
+pub record Reach (i left last next : ℕ) : Type 0 where
+  pub onward : i ≤ next
+  pub near : next ≤ i + 2 * left + 1
+  pub within : i ≤ last → next ≤ last
+
+module _ (bytes : List ℕ) (end : ℕ) (stated : Bool) where
+  abbrev last : ℕ
+  last = min end (8 * length bytes)
+
+  abbrev take : ℕ → Bit
+  take = takeBit bytes end stated
+
+  abbrev code : ℕ → ℕ → ℕ → Number
+  code = codeFrom bytes end stated
+
+  -- every place that a code reaches
+  pub code-reach : (left v i : ℕ) → Reach i left last (nextOf (code left v i))
+  unfolding nextOf
+  code-reach zero v i =
+      takes (Reach i zero last (nextOf (code zero v i))) (take i)
+      (λ bit next e.
+      let t = taken bytes end stated i bit next e in
+      let here : Reach i zero last next = record { onward = t .goes-on; near = omega (arith, t .one-at-most); within = t .within } in
+      elim (ℕ-discrete bit 1) [
+        | yes one ↦ rw (code-ends bytes end stated zero v i bit next e one) here
+        | no other ↦ rw (code-too-long bytes end stated zero v i bit next e other refl) here
+      ])
+      (λ e. rw (code-missing bytes end stated zero v i e) (record { onward = omega arith; near = omega arith; within = λ h. h }))
+  code-reach (suc left) v i =
+      takes (Reach i (suc left) last (nextOf (code (suc left) v i))) (take i)
+      (λ bit next e.
+      let t = taken bytes end stated i bit next e in
+      let here : Reach i (suc left) last next = record { onward = t .goes-on; near = omega (arith, t .one-at-most); within = t .within } in
+      elim (ℕ-discrete bit 1) [
+        | yes one ↦ rw (code-ends bytes end stated (suc left) v i bit next e one) here
+        | no other ↦
+            takes (Reach i (suc left) last (nextOf (code (suc left) v i))) (take next)
+            (λ d after e2.
+            let u = taken bytes end stated next d after e2 in
+            let less : suc left - 1 ≡ left = omega arith in
+            let rest = code-reach left (2 * v + d) after in
+            rw (code-goes-on bytes end stated (suc left) v i bit next d after e other (omega arith) e2, less)
+            (record {
+              onward = omega (arith, t .goes-on, u .goes-on, rest .onward);
+              near = omega (arith, t .one-at-most, u .one-at-most, rest .near);
+              within = λ h. rest .within (u .within (t .within h));
+            }))
+            (λ e2. rw (code-cut bytes end stated (suc left) v i bit next e other (omega arith) e2) here)
+      ])
+      (λ e. rw (code-missing bytes end stated (suc left) v i e) (record { onward = omega arith; near = omega arith; within = λ h. h }))
+
+  -- a number that was read, from its start on
+  pub unsigned-reach : (i size : ℕ) (minus : Bool) (next : ℕ) → unsigned bytes end stated i ≡ Read size minus next → Reach i 31 last next
+  unfolding unsigned nextOf
+  unsigned-reach i size minus next e = subst (λ (n : Number). Reach i 31 last (nextOf n)) e (code-reach 31 1 i)
+
+-- another end, where the bits within reach are the same
+module _ (bytes : List ℕ) (end₁ end₂ : ℕ) (stated : Bool) where
+  take-same : (i : ℕ) → present bytes end₁ i ≡ present bytes end₂ i → takeBit bytes end₁ stated i ≡ takeBit bytes end₂ stated i
+  unfolding takeBit
+  take-same i same = rw same
+
+  code-same : (left v i : ℕ) → ((k : ℕ) → k ≤ i + 2 * left → present bytes end₁ k ≡ present bytes end₂ k) →
+      codeFrom bytes end₁ stated left v i ≡ codeFrom bytes end₂ stated left v i
+  code-same zero v i same =
+      let first = take-same i (same i (omega arith)) in
+      takes (codeFrom bytes end₁ stated zero v i ≡ codeFrom bytes end₂ stated zero v i) (takeBit bytes end₂ stated i)
+      (λ bit next e.
+      elim (ℕ-discrete bit 1) [
+        | yes one ↦ code-ends bytes end₁ stated zero v i bit next (first ∙ e) one ∙ sym (code-ends bytes end₂ stated zero v i bit next e one)
+        | no other ↦
+            code-too-long bytes end₁ stated zero v i bit next (first ∙ e) other refl
+            ∙ sym (code-too-long bytes end₂ stated zero v i bit next e other refl)
+      ])
+      (λ e. code-missing bytes end₁ stated zero v i (first ∙ e) ∙ sym (code-missing bytes end₂ stated zero v i e))
+  code-same (suc left) v i same =
+      let first = take-same i (same i (omega arith)) in
+      takes (codeFrom bytes end₁ stated (suc left) v i ≡ codeFrom bytes end₂ stated (suc left) v i) (takeBit bytes end₂ stated i)
+      (λ bit next e.
+      let t = taken bytes end₂ stated i bit next e in
+      let second = take-same next (same next (omega (arith, t .one-at-most))) in
+      elim (ℕ-discrete bit 1) [
+        | yes one ↦
+            code-ends bytes end₁ stated (suc left) v i bit next (first ∙ e) one ∙ sym (code-ends bytes end₂ stated (suc left) v i bit next e one)
+        | no other ↦
+            takes (codeFrom bytes end₁ stated (suc left) v i ≡ codeFrom bytes end₂ stated (suc left) v i) (takeBit bytes end₂ stated next)
+            (λ d after e2.
+            let u = taken bytes end₂ stated next d after e2 in
+            let less : suc left - 1 ≡ left = omega arith in
+            let rest = code-same left (2 * v + d) after (λ k h. same k (omega (arith, t .one-at-most, u .one-at-most))) in
+            rw (
+              code-goes-on bytes end₁ stated (suc left) v i bit next d after (first ∙ e) other (omega arith) (second ∙ e2),
+              code-goes-on bytes end₂ stated (suc left) v i bit next d after e other (omega arith) e2,
+              less,
+            )
+            rest)
+            (λ e2.
+            code-cut bytes end₁ stated (suc left) v i bit next (first ∙ e) other (omega arith) (second ∙ e2)
+            ∙ sym (code-cut bytes end₂ stated (suc left) v i bit next e other (omega arith) e2))
+      ])
+      (λ e. code-missing bytes end₁ stated (suc left) v i (first ∙ e) ∙ sym (code-missing bytes end₂ stated (suc left) v i e))
+
+  -- so two ends that both lie out of reach, or past the bytes, give the same number
+  pub unsigned-same : (i : ℕ) → ((k : ℕ) → k ≤ i + 62 → present bytes end₁ k ≡ present bytes end₂ k) →
+      unsigned bytes end₁ stated i ≡ unsigned bytes end₂ stated i
+  unfolding unsigned
+  unsigned-same i same = code-same 31 1 i same

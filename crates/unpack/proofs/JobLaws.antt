@@ -1,0 +1,72 @@
+-- Laws of the job: what passed checks give, the subbands one by one, and the ways that it ends.
+-- Assumes nothing.
+use mathlib.Core.Path.{_≡_, refl, sym, subst}
+use mathlib.Core.List.{List}
+use mathlib.Core.Logic.{_≢_}
+use mathlib.Core.Bool.{true, false}
+use Prim.Native.Nat.{ℕ, zero, suc, _+_}
+use native.Mathlib.Omega.{arith}
+use lib.Dec.{eqb}
+use lib.IntN.{ℤ}
+use lib.ListN.{length}
+use borrow.Author.Tests.{eq-eqb, ne-eqb, eqb-true, not-false}
+use Rattle.base.specs.Fill.{zerosLike}
+use Rattle.base.proofs.Everys.{and-left}
+use Rattle.component.specs.Checks.{areaOf, planesFit, refusalOf, unpacks, codeblocksInRange}
+use Rattle.component.specs.Subbands.{subbandCount}
+use Rattle.component.specs.declared.parameters.Parameters.{Parameters}
+use Rattle.component.specs.declared.parameters.Lengths.{Lengths}
+use Rattle.component.specs.declared.parameters.Job.the-variants.{Unpack}
+use Rattle.component.proofs.CheckLaws.{passed}
+use Rattle.unpack.specs.Reading.{Run, goesOn, stops}
+use Rattle.unpack.specs.Subband.{subband}
+use Rattle.unpack.specs.Job.{Unpacked, endedWith, subbandsFrom, unpacked}
+use Rattle.unpack.specs.Bounds.{Checked}
+
+module _ (p : Parameters) (bytes : List ℕ) (k start : ℕ) (plane : List ℤ) where
+  -- after the last
+  pub subbands-end : subbandsFrom p bytes zero k start plane ≡ record { status = 0; place = start; coefficients = plane }
+  unfolding subbandsFrom
+  subbands-end = refl
+
+  -- after one that was accepted, and after one that was refused
+  module _ (n : ℕ) where
+    abbrev endsWith : Run → Unpacked
+    endsWith r = endedWith k (r .progress) (r .plane) (subbandsFrom p bytes n (suc k))
+
+    pub subbands-next : (next : ℕ) (last : List ℤ) → goesOn next last ≡ subband p bytes k (goesOn start plane) →
+        subbandsFrom p bytes (suc n) k start plane ≡ subbandsFrom p bytes n (k + 1) next last
+    unfolding subbandsFrom endedWith
+    subbands-next next last e =
+        let more : k + 1 ≡ suc k = omega arith in
+        rw more (subst (λ (r : Run). endsWith r ≡ subbandsFrom p bytes n (suc k) next last) e refl)
+
+    pub subbands-stop : (status : ℕ) (last : List ℤ) → stops status last ≡ subband p bytes k (goesOn start plane) →
+        subbandsFrom p bytes (suc n) k start plane ≡ record { status = status; place = k; coefficients = zerosLike last }
+    unfolding subbandsFrom endedWith
+    subbands-stop status last e = subst (λ (r : Run). endsWith r ≡ record { status = status; place = k; coefficients = zerosLike last }) e refl
+
+-- What the checks say of a plane.
+abbrev status : Parameters → List ℤ → ℕ
+status p plane = refusalOf Unpack p (record { coefficients = length plane; work = 0; samples = 0 })
+
+-- refused by a check, and not
+module _ (p : Parameters) (bytes : List ℕ) (plane : List ℤ) where
+  pub job-refused : status p plane ≢ 0 → unpacked p bytes plane ≡ record { status = status p plane; place = 0; coefficients = plane }
+  unfolding unpacked
+  job-refused some = rw (ne-eqb (status p plane) 0 some)
+
+  pub job-read : status p plane ≡ 0 → unpacked p bytes plane ≡ subbandsFrom p bytes (subbandCount (p .depth)) 0 0 (zerosLike plane)
+  unfolding unpacked
+  job-read none = rw (eq-eqb (status p plane) 0 none)
+
+-- where no check refused, the parameters and the plane are as the readers need them
+module _ (p : Parameters) (plane : List ℤ) (none : status p plane ≡ 0) where
+  pub job-checked : Checked p
+  job-checked =
+      let all = passed Unpack p _ none in
+      record { sizes = all .sizes-pass; depth = all .depth-passes; codeblocks = not-false _ (all .codeblocks-pass) }
+
+  pub job-fits : length plane ≡ areaOf p
+  unfolding planesFit
+  job-fits = eqb-true _ _ (and-left _ _ (passed Unpack p _ none .planes-pass))

@@ -1,0 +1,50 @@
+-- Document 01, "Refusal numbers": what unpack answers and what it leaves in its plane, for every input.
+use Prim.Native.Nat.{ℕ, zero, suc}
+use mathlib.Core.Bool.{cond}
+use mathlib.Core.List.{List}
+use lib.Dec.{eqb}
+use lib.IntN.{ℤ}
+use lib.ListN.{length}
+use Rattle.base.specs.Fill.{zerosLike}
+use Rattle.component.specs.Checks.{refusalOf}
+use Rattle.component.specs.Subbands.{subbandCount}
+use Rattle.component.specs.declared.parameters.Parameters.{Parameters}
+use Rattle.component.specs.declared.parameters.Answer.{Answer}
+use Rattle.component.specs.declared.parameters.Lengths.{Lengths}
+use Rattle.component.specs.declared.parameters.Job.the-variants.{Unpack}
+use Rattle.unpack.specs.Reading.{Run, goesOn}
+use Rattle.unpack.specs.Subband.{subband}
+use Rattle.unpack.specs.declared.progress.Progress.{Progress}
+use Rattle.unpack.specs.declared.progress.Progress.the-variants.{At, Refused}
+
+-- What a call of unpack gives: its answer, and what the coefficient plane holds after it.
+pub record Unpacked : Type 0 where
+  pub status : ℕ
+  pub place : ℕ
+  pub coefficients : List ℤ
+
+-- What a call gave: its answer, and what stood in the plane when it returned.
+unfoldable pub outcome : Answer → List ℤ → Unpacked
+outcome answer coefficients = record { status = answer .status; place = answer .place; coefficients = coefficients }
+
+-- After subband k: accepted so far, or refused with the subband as its place and zeros in the plane.
+unfoldable pub endedWith : ℕ → Progress → List ℤ → (ℕ → List ℤ → Unpacked) → Unpacked
+endedWith k (At next) plane go = go next plane
+endedWith k (Refused status) plane go = record { status = status; place = k; coefficients = zerosLike plane }
+
+module _ (p : Parameters) (bytes : List ℕ) where
+  -- "6 to 9 arise in reading order, the earliest ending the call": n subbands from subband k on, which starts at a byte. "bytes used" ends
+  -- with the last.
+  unfoldable pub subbandsFrom : ℕ → ℕ → ℕ → List ℤ → Unpacked
+  subbandsFrom zero k start plane = record { status = 0; place = start; coefficients = plane }
+  subbandsFrom (suc n) k start plane =
+      let r = subband p bytes k (goesOn start plane) in
+      endedWith k (r .progress) (r .plane) (λ next after. subbandsFrom n (suc k) next after)
+
+  -- "Checks run in this order"; "Zeros are written", and then the subbands in stream order.
+  unfoldable pub unpacked : List ℤ → Unpacked
+  unpacked coefficients =
+      let status = refusalOf Unpack p (record { coefficients = length coefficients; work = 0; samples = 0 }) in
+      cond (eqb status 0)
+      (subbandsFrom (subbandCount (p .depth)) 0 0 (zerosLike coefficients))
+      (record { status = status; place = 0; coefficients = coefficients })

@@ -1,0 +1,77 @@
+// Document 01, "One subband": the unpack job, from bytes to coefficients.
+pub mod codeblocks;
+pub mod prediction;
+pub mod progress;
+pub mod quantiser;
+pub mod subbands;
+pub mod values;
+
+ghost use mathlib.Core.Path.{_≡_};
+ghost use lib.ListN.{length};
+ghost use Rattle.component.specs.Checks.{areaOf};
+ghost use Rattle.component.specs.Subbands.{subbandCount};
+ghost use Rattle.unpack.specs.Job.{outcome, subbandsFrom, unpacked};
+ghost use Rattle.unpack.specs.Bounds.{Checked, statusOf};
+use crate::progress::Progress;
+use crate::subbands::read_subband;
+use base::plane::zero;
+use component::checks::refusal;
+use component::parameters::Answer;
+use component::parameters::Job;
+use component::parameters::Lengths;
+use component::parameters::Parameters;
+use component::subbands::subband_count;
+
+// Reads the coefficients of a component from its bytes. Refusals 1, 2, 4 and 5 leave the plane as it was; 6 to 9 leave zeros, with the
+// subband as their place; the place of an acceptance is the number of bytes used.
+pub fn unpack(p: Parameters, bytes: &[u8], coefficients: &mut [i32]) -> Answer
+    ensures { λ r. ⌜ outcome r (now (coefficients .exit)) ≡ unpacked p (now (bytes .entry)) (now (coefficients .entry)) ⌝ }
+{
+    let lengths = Lengths {
+        coefficients: coefficients.len(),
+        work: 0,
+        samples: 0,
+    };
+    let status = refusal(Job::Unpack, p, lengths);
+    if status != 0 {
+        return Answer { status, place: 0 };
+    }
+    zero(coefficients);
+    read_subbands(p, bytes, coefficients)
+}
+
+// Reads the subbands in stream order into a plane.
+fn read_subbands(p: Parameters, bytes: &[u8], plane: &mut [i32]) -> Answer
+    requires { ⌜ Checked p × (length (now plane) ≡ areaOf p) ⌝ }
+    ensures { λ r. ⌜ outcome r (now (plane .exit)) ≡ subbandsFrom p (now (bytes .entry)) (subbandCount (p .depth)) 0 0 (now (plane .entry)) ⌝ }
+{
+    let count = subband_count(p.depth as usize);
+    let mut start = 0;
+    let mut k = 0;
+    while k < count {
+        let progress = read_subband(plane, p, k, bytes, start);
+        let Progress::At { next } = progress else {
+            zero(plane);
+            return Answer {
+                status: refusal_status(progress),
+                place: k,
+            };
+        };
+        start = next;
+        k += 1;
+    }
+    Answer {
+        status: 0,
+        place: start,
+    }
+}
+
+// The number of a refusal, or 0.
+fn refusal_status(progress: Progress) -> u32
+    ensures { λ r. ⌜ r ≡ statusOf progress ⌝ }
+{
+    match progress {
+        Progress::At { next: _ } => 0,
+        Progress::Refused { status } => status,
+    }
+}
