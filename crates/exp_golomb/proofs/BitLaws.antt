@@ -1,15 +1,14 @@
 -- Laws of bits: where one is there, and what taking one gives.
 -- Assumes nothing.
-use mathlib.Core.Path.{_≡_, refl, sym, ap, _∙_}
-use mathlib.Core.Bool.{Bool, true, false, cond}
+use mathlib.Core.Path.{_≡_, refl, sym, _∙_}
+use mathlib.Core.Bool.{Bool, true, false}
 use mathlib.Core.List.{List}
-use Prim.Native.Nat.{ℕ, _+_, _-_, _*_, _/_, _%_, _^_, _≤_, _<_, min}
+use Prim.Native.Nat.{ℕ, _+_, _-_, _*_, _/_, _≤_, _<_, min}
 use native.Mathlib.Omega.{arith}
 use lib.Dec.{ltb}
-use lib.ListN.{length, getD}
+use lib.ListN.{length}
 use borrow.Author.Tests.{lt-ltb, le-ltb, ltb-true, ltb-false}
 use Rattle.exp_golomb.specs.Bits.{bitAt, present, takeBit}
-use Rattle.exp_golomb.specs.declared.bits.Bit.{Bit}
 use Rattle.exp_golomb.specs.declared.bits.Bit.the-variants.{Taken, Absent}
 
 module _ (bytes : List ℕ) (end i : ℕ) where

@@ -1,21 +1,19 @@
 -- How far a number code reaches: its places stay within the data and within 63 bits, so what lies further on does not matter.
 -- Assumes nothing.
-use mathlib.Core.Path.{_≡_, refl, sym, ap, _∙_, subst}
-use mathlib.Core.Bool.{Bool, true, false, cond}
+use mathlib.Core.Path.{_≡_, refl, sym, _∙_, subst}
+use mathlib.Core.Bool.{Bool}
 use mathlib.Core.List.{List}
-use Prim.Native.Nat.{ℕ, zero, suc, _+_, _-_, _*_, _≤_, _<_, min}
+use Prim.Native.Nat.{ℕ, zero, suc, _+_, _-_, _*_, _≤_, min}
 use native.Mathlib.Decide.{ℕ-discrete}
 use native.Mathlib.Omega.{arith}
-use lib.Dec.{eqb}
 use lib.ListN.{length}
-use borrow.Author.Tests.{eq-eqb, ne-eqb}
 use Rattle.exp_golomb.specs.Bits.{present, takeBit}
-use Rattle.exp_golomb.specs.Codes.{onBit, codeFrom, unsigned}
+use Rattle.exp_golomb.specs.Codes.{codeFrom, unsigned}
 use Rattle.exp_golomb.specs.declared.bits.Bit.{Bit}
 use Rattle.exp_golomb.specs.declared.bits.Bit.the-variants.{Taken, Absent}
 use Rattle.exp_golomb.specs.declared.codes.Number.{Number}
 use Rattle.exp_golomb.specs.declared.codes.Number.the-variants.{Read, Missing, TooLong}
-use Rattle.exp_golomb.proofs.BitLaws.{BitTaken, taken}
+use Rattle.exp_golomb.proofs.BitLaws.{taken}
 use Rattle.exp_golomb.proofs.CodeLaws.{code-missing, code-ends, code-too-long, code-cut, code-goes-on}
 
 -- The place that an answer carries.
@@ -25,7 +23,7 @@ nextOf (Missing next) = next
 nextOf (TooLong next) = next
 
 -- what taking a bit can find
-takes : (P : Type 0) (b : Bit) → ((bit next : ℕ) → b ≡ Taken bit next → P) → (b ≡ Absent → P) → P
+pub takes : (P : Type 0) (b : Bit) → ((bit next : ℕ) → b ≡ Taken bit next → P) → (b ≡ Absent → P) → P
 takes P (Taken bit next) yes-bit no-bit = yes-bit bit next refl
 takes P Absent yes-bit no-bit = no-bit refl
 

@@ -3,3 +3,4 @@ pub mod BitLaws
 pub mod CodeLaws
 pub mod WorkedExamples
 pub mod Extent
+pub mod Followed

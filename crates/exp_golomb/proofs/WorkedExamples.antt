@@ -2,14 +2,14 @@
 -- Assumes nothing.
 use mathlib.Core.Path.{_≡_, refl}
 use mathlib.Core.Bool.{true, false}
-use mathlib.Core.List.{List, [], _∷_}
+use mathlib.Core.List.{[], _∷_}
 use Prim.Native.Nat.{ℕ}
-use lib.IntN.{ℤ, negsuc}
+use lib.IntN.{negsuc}
 use Rattle.base.specs.Sign.{withSign}
 use Rattle.exp_golomb.specs.Bits.{bitAt, present, takeBit}
 use Rattle.exp_golomb.specs.Codes.{onBit, codeFrom, unsigned, withSignBit, signed}
 use Rattle.exp_golomb.specs.declared.codes.Number.{Number}
-use Rattle.exp_golomb.specs.declared.codes.Number.the-variants.{Read, Missing, TooLong}
+use Rattle.exp_golomb.specs.declared.codes.Number.the-variants.{Read}
 
 -- The number in the first bits of a byte.
 abbrev inByte : ℕ → ℕ → Number

@@ -5,13 +5,12 @@ use mathlib.Core.Path.{_≡_, refl, sym, ap, _∙_, subst}
 use mathlib.Core.Logic.{_≢_}
 use mathlib.Core.Bool.{Bool, true, false, cond}
 use mathlib.Core.List.{List}
-use Prim.Native.Nat.{ℕ, zero, suc, _+_, _-_, _*_, _/_, _^_, _≤_, _<_, min}
+use Prim.Native.Nat.{ℕ, zero, suc, _+_, _-_, _*_, _≤_, _<_, min}
 use native.Mathlib.Nat.{mul-le-mul-right, mul-comm}
 use native.Mathlib.Decide.{decLt}
 use native.Mathlib.Omega.{arith}
-use lib.Dec.{ltb, eqb}
 use lib.IntN.{ℤ}
-use lib.ListN.{length, getD, drop, length-drop}
+use lib.ListN.{length, drop, length-drop}
 use borrow.Author.Tests.{lt-ltb, le-ltb, eq-eqb, ne-eqb}
 use Rattle.component.specs.Sizes.{paddedSize}
 use Rattle.component.specs.Checks.{areaOf}
@@ -32,7 +31,6 @@ use Rattle.unpack.specs.declared.codeblocks.Codeblocks.{Codeblocks}
 use Rattle.unpack.proofs.Runs.{walk-keeps}
 use Rattle.unpack.proofs.PredictionLaws.{predicted-row-stays}
 use Rattle.unpack.specs.Bounds.{after, Checked, Placed, codeblocksOf}
-use Rattle.unpack.specs.declared.progress.Progress.{Progress}
 use Rattle.unpack.specs.declared.progress.Progress.the-variants.{At, Refused}
 use Rattle.unpack.proofs.ValueLaws.{number-refused}
 

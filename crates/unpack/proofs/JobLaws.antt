@@ -1,21 +1,18 @@
 -- Laws of the job: what passed checks give, the subbands one by one, and the ways that it ends.
 -- Assumes nothing.
-use mathlib.Core.Path.{_≡_, refl, sym, subst}
+use mathlib.Core.Path.{_≡_, refl, subst}
 use mathlib.Core.List.{List}
 use mathlib.Core.Logic.{_≢_}
-use mathlib.Core.Bool.{true, false}
 use Prim.Native.Nat.{ℕ, zero, suc, _+_}
 use native.Mathlib.Omega.{arith}
-use lib.Dec.{eqb}
 use lib.IntN.{ℤ}
 use lib.ListN.{length}
 use borrow.Author.Tests.{eq-eqb, ne-eqb, eqb-true, not-false}
 use Rattle.base.specs.Fill.{zerosLike}
 use Rattle.base.proofs.Everys.{and-left}
-use Rattle.component.specs.Checks.{areaOf, planesFit, refusalOf, unpacks, codeblocksInRange}
+use Rattle.component.specs.Checks.{areaOf, planesFit, refusalOf}
 use Rattle.component.specs.Subbands.{subbandCount}
 use Rattle.component.specs.declared.parameters.Parameters.{Parameters}
-use Rattle.component.specs.declared.parameters.Lengths.{Lengths}
 use Rattle.component.specs.declared.parameters.Job.the-variants.{Unpack}
 use Rattle.component.proofs.CheckLaws.{passed}
 use Rattle.unpack.specs.Reading.{Run, goesOn, stops}
@@ -47,7 +44,7 @@ module _ (p : Parameters) (bytes : List ℕ) (k start : ℕ) (plane : List ℤ) 
     subbands-stop status last e = subst (λ (r : Run). endsWith r ≡ record { status = status; place = k; coefficients = zerosLike last }) e refl
 
 -- What the checks say of a plane.
-abbrev status : Parameters → List ℤ → ℕ
+abbrev pub status : Parameters → List ℤ → ℕ
 status p plane = refusalOf Unpack p (record { coefficients = length plane; work = 0; samples = 0 })
 
 -- refused by a check, and not

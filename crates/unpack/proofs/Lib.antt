@@ -9,3 +9,4 @@ pub mod PredictionLaws
 pub mod HeaderLaws
 pub mod JobLaws
 pub mod Within
+pub mod Trailing

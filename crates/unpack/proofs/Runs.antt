@@ -1,16 +1,14 @@
 -- The laws of runs: a refused run stays as it is, and a loop over steps is a walk of them.
 -- Assumes nothing.
-use mathlib.Core.Path.{_≡_, refl, sym, ap, _∙_}
+use mathlib.Core.Path.{_≡_, refl, sym}
 use mathlib.Core.List.{List}
-use Prim.Native.Nat.{ℕ, _+_, _*_, _≤_, _<_}
+use Prim.Native.Nat.{ℕ, _+_, _*_, _<_}
 use native.Mathlib.Omega.{arith}
 use lib.IntN.{ℤ}
 use Rattle.base.specs.Walk.{walk}
 use Rattle.base.proofs.Walks.{walk-none, walk-next, walk-stopped}
-use Rattle.unpack.specs.Reading.{Run, goesOn, stops, going, value, row, rectangle}
+use Rattle.unpack.specs.Reading.{Run, stops, going, value, row, rectangle}
 use Rattle.unpack.specs.Bounds.{after}
-use Rattle.unpack.specs.declared.progress.Progress.{Progress}
-use Rattle.unpack.specs.declared.progress.Progress.the-variants.{At, Refused}
 
 -- A step that a refused run does not take.
 abbrev pub Stays : (Run → Run) → Type 0

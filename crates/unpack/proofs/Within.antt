@@ -1,23 +1,26 @@
--- On acceptance the bytes used are at most the bytes that there are: a run never goes on past the end of the bytes, and a refusal's number
--- is never 0.
+-- On acceptance the bytes used are at most the bytes that there are: a run never goes back, nor on past the end of the bytes, and
+-- a refusal's number is never 0.
 -- Assumes nothing.
-use mathlib.Core.Path.{_≡_, refl, sym, subst}
+use mathlib.Core.Path.{_≡_, refl, sym, ap, _∙_, subst}
 use mathlib.Core.Logic.{_≢_}
 use mathlib.Core.Bool.{Bool, true, false, cond}
 use mathlib.Core.List.{List}
-use Prim.Native.Nat.{ℕ, zero, suc, _+_, _*_, _≤_, min}
+use Prim.Native.Nat.{ℕ, zero, suc, _+_, _*_, _≤_}
+use native.Mathlib.Decide.{ℕ-discrete}
 use native.Mathlib.Omega.{arith}
 use lib.Dec.{eqb, ltb}
 use lib.IntN.{ℤ}
 use lib.ListN.{length, set, drop}
 use borrow.Author.Tests.{ltb-false}
+use Rattle.base.specs.Fill.{zerosLike}
 use Rattle.base.specs.Range.{fits32}
 use Rattle.base.specs.Walk.{walk}
+use Rattle.component.specs.Subbands.{subbandCount}
 use Rattle.component.specs.declared.parameters.Parameters.{Parameters}
 use Rattle.exp_golomb.specs.Codes.{unsigned}
 use Rattle.exp_golomb.specs.declared.codes.Number.{Number}
 use Rattle.exp_golomb.specs.declared.codes.Number.the-variants.{Read, Missing, TooLong}
-use Rattle.exp_golomb.proofs.Extent.{Reach, unsigned-reach}
+use Rattle.exp_golomb.proofs.Extent.{unsigned-reach}
 use Rattle.component.specs.declared.subbands.Subband.{Subband}
 use Rattle.exp_golomb.specs.Bits.{takeBit}
 use Rattle.exp_golomb.specs.declared.bits.Bit.{Bit}
@@ -27,8 +30,9 @@ use Rattle.unpack.specs.Codeblocks.{onFlag, codeblockValues, codeblock, 
 use Rattle.unpack.specs.Prediction.{predicted, predictedRow, prediction}
 use Rattle.unpack.specs.Subband.{bytesOf, goesOnAt, subbandData, checkedData, subbandFrom, predictedSubband, subband}
 use Rattle.unpack.specs.Bounds.{after}
-use Rattle.unpack.specs.Job.{Unpacked, endedWith, subbandsFrom}
+use Rattle.unpack.specs.Job.{Unpacked, endedWith, subbandsFrom, unpacked}
 use Rattle.unpack.proofs.HeaderLaws.{boundary}
+use Rattle.unpack.proofs.JobLaws.{status, job-refused, job-read}
 use Rattle.unpack.specs.declared.progress.Progress.{Progress}
 use Rattle.unpack.specs.declared.progress.Progress.the-variants.{At, Refused}
 
@@ -78,7 +82,7 @@ module _ (P : ℕ → Type 0) (stride : ℕ) where
   predicted-sound y x r here =
       step-sound P (r .progress) (r .plane) _ here (λ at there. store-sound P _ (y * stride + x) at (r .plane) there)
 
-  prediction-sound : (width height : ℕ) (r : Run) → Sound P (r .progress) → Sound P (prediction stride width height r .progress)
+  pub prediction-sound : (width height : ℕ) (r : Run) → Sound P (r .progress) → Sound P (prediction stride width height r .progress)
   unfolding prediction predictedRow
   prediction-sound width height r here =
       walk-sound P (predictedRow stride width) (λ y s there. walk-sound P (predicted stride y) (predicted-sound y) 0 width s there) 0 height r here
@@ -113,60 +117,83 @@ module _ (bytes : List ℕ) (end q : ℕ) where
       0 across t there)
       0 down r here
 
+-- From a place on, within the bytes.
+abbrev pub Between : ℕ → List ℕ → ℕ → Type 0
+Between start bytes n = (start ≤ n) × (n ≤ length bytes)
+
+-- after data, a run goes on where they end
+goes-on-sound : (P : ℕ → Type 0) (next : ℕ) (r : Run) → P next → Sound Anywhere (r .progress) → Sound P (goesOnAt next r .progress)
+unfolding goesOnAt going
+goes-on-sound P next r passes here = by (r .progress) here
+  where
+    by : (progress : Progress) → Sound Anywhere progress → Sound P (going progress (r .plane) (λ at. goesOn next (r .plane)) .progress)
+    by (At place) h = passes
+    by (Refused status) h = h
+
 module _ (p : Parameters) (bytes : List ℕ) where
-  abbrev Inside : ℕ → Type 0
-  Inside n = n ≤ length bytes
-
-  -- data that end within the bytes
-  goes-on-sound : (next : ℕ) (r : Run) → next ≤ length bytes → Sound Anywhere (r .progress) → Sound Inside (goesOnAt next r .progress)
-  unfolding goesOnAt going
-  goes-on-sound next r inside here = by (r .progress) here
-    where
-      by : (progress : Progress) → Sound Anywhere progress → Sound Inside (going progress (r .plane) (λ at. goesOn next (r .plane)) .progress)
-      by (At place) h = inside
-      by (Refused status) h = h
-
-  data-sound : (k q start size : ℕ) (plane : List ℤ) → Sound Inside (checkedData p bytes k q start size plane .progress)
+  -- data end no earlier than the place before them, and within the bytes
+  data-sound : (first k q start size : ℕ) (plane : List ℤ) → first ≤ start → Sound (Between first bytes) (checkedData p bytes k q start size plane .progress)
   unfolding checkedData subbandData
-  data-sound k q start size plane =
-      choice-sound Inside (ltb 115 q) _ _ (λ t e. omega arith)
-      (λ t. choice-sound Inside (ltb (length bytes) (start + size)) _ _ (λ u e. omega arith)
-      (λ u. goes-on-sound (start + size) _ (ltb-false (length bytes) (start + size) u) (codeblocks-sound _ _ _ _ _ _ _ (goesOn 0 plane) tt)))
+  data-sound first k q start size plane onward =
+      choice-sound (Between first bytes) (ltb 115 q) _ _ (λ t e. omega arith)
+      (λ t. choice-sound (Between first bytes) (ltb (length bytes) (start + size)) _ _ (λ u e. omega arith)
+      (λ u. goes-on-sound (Between first bytes) (start + size) _ (omega arith, ltb-false (length bytes) (start + size) u) (codeblocks-sound _ _ _ _ _ _ _ (goesOn 0 plane) tt)))
 
-  from-sound : (k start : ℕ) (plane : List ℤ) → start ≤ length bytes → Sound Inside (subbandFrom p bytes k start plane .progress)
+  -- so does a subband, from its header on
+  from-sound : (k start : ℕ) (plane : List ℤ) → start ≤ length bytes → Sound (Between start bytes) (subbandFrom p bytes k start plane .progress)
   unfolding subbandFrom
   from-sound k start plane inside =
       let rest = drop start bytes in
-      number-sound Inside (unsigned rest (8 * length rest) false 0) plane _
+      let P = Between start bytes in
+      number-sound P (unsigned rest (8 * length rest) false 0) plane _
       (λ size minus next e.
       let first = unsigned-reach rest (8 * length rest) false 0 size minus next e in
-      choice-sound Inside (eqb size 0) _ _
-      (λ t. boundary bytes start next inside (first .within (omega arith)))
-      (λ t. number-sound Inside (unsigned rest (8 * length rest) false next) plane _ (λ q sign after e2. data-sound k q (start + bytesOf after) size plane)))
+      choice-sound P (eqb size 0) _ _
+      (λ t. (omega arith, boundary bytes start next inside (first .within (omega arith))))
+      (λ t. number-sound P (unsigned rest (8 * length rest) false next) plane _ (λ q sign after e2. data-sound start k q (start + bytesOf after) size plane (omega arith))))
 
-  -- a subband that starts within the bytes ends within them
-  pub subband-sound : (k start : ℕ) (plane : List ℤ) → start ≤ length bytes → Sound Inside (subband p bytes k (goesOn start plane) .progress)
+  -- a subband that starts within the bytes ends within them, and no earlier than it starts
+  pub subband-sound : (k start : ℕ) (plane : List ℤ) → start ≤ length bytes → Sound (Between start bytes) (subband p bytes k (goesOn start plane) .progress)
   unfolding subband predictedSubband going
   subband-sound zero start plane inside =
-      choice-sound Inside (p .intra) _ _ (λ t. prediction-sound Inside _ _ _ (subbandFrom p bytes zero start plane) (from-sound zero start plane inside)) (λ t. from-sound zero start plane inside)
+      let P = Between start bytes in
+      choice-sound P (p .intra) _ _ (λ t. prediction-sound P _ _ _ (subbandFrom p bytes zero start plane) (from-sound zero start plane inside)) (λ t. from-sound zero start plane inside)
   subband-sound (suc k) start plane inside = from-sound (suc k) start plane inside
 
+  -- so the next subband starts within the bytes
   pub next-inside : (k start next : ℕ) (plane last : List ℤ) → start ≤ length bytes → after (At next) last ≡ subband p bytes k (goesOn start plane) → next ≤ length bytes
-  next-inside k start next plane last inside e = subst (λ (r : Run). Sound Inside (r .progress)) (sym e) (subband-sound k start plane inside)
+  next-inside k start next plane last inside e = (subst (λ (r : Run). Sound (Between start bytes) (r .progress)) (sym e) (subband-sound k start plane inside)) .1
 
-  -- what a subband ends with
-  ended : (k : ℕ) (progress : Progress) (plane : List ℤ) (go : ℕ → List ℤ → Unpacked) → Sound Inside progress →
-      ((next : ℕ) (after : List ℤ) → next ≤ length bytes → go next after .status ≡ 0 → go next after .place ≤ length bytes) →
-      endedWith k progress plane go .status ≡ 0 → endedWith k progress plane go .place ≤ length bytes
+  -- what follows a subband ends where each way on from it does
+  ended : (k start : ℕ) (progress : Progress) (plane : List ℤ) (go : ℕ → List ℤ → Unpacked) → Sound (Between start bytes) progress →
+      ((next : ℕ) (after : List ℤ) → next ≤ length bytes → go next after .status ≡ 0 → Between next bytes (go next after .place)) →
+      endedWith k progress plane go .status ≡ 0 → Between start bytes (endedWith k progress plane go .place)
   unfolding endedWith
-  ended k (At next) plane go here each fine = each next plane here fine
-  ended k (Refused status) plane go here each fine = absurd (here fine)
+  ended k start (At next) plane go here each fine =
+      let further = each next plane (here .1) fine in
+      (omega (arith, here .0, further .0), further .1)
+  ended k start (Refused status) plane go here each fine = absurd (here fine)
 
-  -- so do all subbands: the bytes used are at most the bytes that there are
-  used-inside : (n k start : ℕ) (plane : List ℤ) → start ≤ length bytes → subbandsFrom p bytes n k start plane .status ≡ 0 → subbandsFrom p bytes n k start plane .place ≤ length bytes
+  -- so all subbands end no earlier than they start, and within the bytes
+  pub used-between : (n k start : ℕ) (plane : List ℤ) → start ≤ length bytes → subbandsFrom p bytes n k start plane .status ≡ 0 →
+      Between start bytes (subbandsFrom p bytes n k start plane .place)
   unfolding subbandsFrom
-  used-inside zero k start plane inside fine = inside
-  used-inside (suc n) k start plane inside fine =
+  used-between zero k start plane inside fine = (omega arith, inside)
+  used-between (suc n) k start plane inside fine =
       let r = subband p bytes k (goesOn start plane) in
-      ended k (r .progress) (r .plane) (subbandsFrom p bytes n (suc k)) (subband-sound k start plane inside)
-      (λ next after here. used-inside n (suc k) next after here) fine
+      ended k start (r .progress) (r .plane) (subbandsFrom p bytes n (suc k)) (subband-sound k start plane inside)
+      (λ next after here. used-between n (suc k) next after here) fine
+
+  -- a job that was accepted passed the checks
+  pub accepted-read : (plane : List ℤ) → unpacked p bytes plane .status ≡ 0 → status p plane ≡ 0
+  accepted-read plane fine =
+      elim (ℕ-discrete (status p plane) 0) [
+        | yes none ↦ none
+        | no some ↦ sym (ap (λ (u : Unpacked). u .status) (job-refused p bytes plane some)) ∙ fine
+      ]
+
+  -- On acceptance, the bytes used are at most the bytes that there are.
+  pub used-at-most : (plane : List ℤ) → unpacked p bytes plane .status ≡ 0 → unpacked p bytes plane .place ≤ length bytes
+  used-at-most plane fine =
+      let read = job-read p bytes plane (accepted-read plane fine) in
+      rw read (used-between (subbandCount (p .depth)) 0 0 (zerosLike plane) (omega arith) (rw read at fine) .1)

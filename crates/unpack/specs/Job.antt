@@ -27,7 +27,7 @@ pub record Unpacked : Type 0 where
 unfoldable pub outcome : Answer → List ℤ → Unpacked
 outcome answer coefficients = record { status = answer .status; place = answer .place; coefficients = coefficients }
 
--- After subband k: accepted so far, or refused with the subband as its place and zeros in the plane.
+-- After subband k: accepted so far, or refused with the subband as its place: "Zeros are written to each plane the call may write."
 unfoldable pub endedWith : ℕ → Progress → List ℤ → (ℕ → List ℤ → Unpacked) → Unpacked
 endedWith k (At next) plane go = go next plane
 endedWith k (Refused status) plane go = record { status = status; place = k; coefficients = zerosLike plane }
@@ -41,7 +41,8 @@ module _ (p : Parameters) (bytes : List ℕ) where
       let r = subband p bytes k (goesOn start plane) in
       endedWith k (r .progress) (r .plane) (λ next after. subbandsFrom n (suc k) next after)
 
-  -- "Checks run in this order"; "Zeros are written", and then the subbands in stream order.
+  -- "Checks run in this order"; then the subbands in stream order, over zeros, which stay where "all values are 0" and where a flag "leaves
+  -- the block zero".
   unfoldable pub unpacked : List ℤ → Unpacked
   unpacked coefficients =
       let status = refusalOf Unpack p (record { coefficients = length coefficients; work = 0; samples = 0 }) in

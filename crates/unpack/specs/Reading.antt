@@ -37,7 +37,7 @@ onNumber (Read size minus next) plane go = go size minus next
 onNumber (Missing next) plane go = stops 6 plane
 onNumber (TooLong next) plane go = stops 7 plane
 
--- A number, dequantised, stored at a place; 9 where "an unpacked value is outside signed 32 bits".
+-- A value stored at a place; 9 where "an unpacked or predicted value is outside signed 32 bits".
 unfoldable pub store : ℤ → ℕ → ℕ → List ℤ → Run
 store v place next plane = cond (fits32 v) (goesOn next (set plane place v)) (stops 9 plane)
 

@@ -1,4 +1,5 @@
--- Document 01, "One subband": its header, its data, and the subbands one after the other. Here a run goes on at a byte.
+-- Document 01, "One subband": its header and its data. Here a run goes on at a byte. The plane that a subband starts with holds zeros where
+-- the subband stands: what is not read stays zero.
 use Prim.Native.Nat.{ℕ, zero, suc, _+_, _*_, _/_}
 use mathlib.Core.Bool.{Bool, true, false, cond, _&&_}
 use mathlib.Core.List.{List}

@@ -1,17 +1,15 @@
 -- `unpack::read_subbands` meets its contract: what is left of the subbands gives what all of them give.
 -- Assumes nothing.
 use mathlib.Core.Path.{_≡_, refl, sym, ap, _∙_}
-use mathlib.Core.List.{List}
 use Prim.Native.Nat.{ℕ, suc, _+_, _-_, _≤_, _<_}
 use native.Mathlib.Omega.{arith}
 use borrow.Author.Needs.{needs}
 use lib.ListN.{length}
 use denote.Ref.{now}
 use Rattle.component.proofs.CheckLaws.{depth-most}
-use Rattle.unpack.specs.Reading.{goesOn}
 use Rattle.unpack.specs.Subband.{subband}
 use Rattle.unpack.specs.Job.{Unpacked, outcome, subbandsFrom}
-use Rattle.unpack.specs.Bounds.{after, statusOf}
+use Rattle.unpack.specs.Bounds.{after}
 use Rattle.unpack.proofs.JobLaws.{subbands-end, subbands-next, subbands-stop}
 use Rattle.unpack.proofs.Within.{next-inside}
 use Rattle.unpack.proofs.read_subbands.Statement.{statement}

@@ -1,15 +1,14 @@
 -- `unpack::subbands::read_data` meets its contract: the codeblocks are read from the part of the bytes that the length states.
 -- Assumes nothing.
-use mathlib.Core.Path.{_≡_, refl, sym, ap, _∙_, subst}
-use mathlib.Core.List.{List}
-use Prim.Native.Nat.{ℕ, _+_, _-_, _*_, _≤_, _<_}
+use mathlib.Core.Path.{_≡_, sym, ap, _∙_, subst}
+use Prim.Native.Nat.{ℕ, _+_, _-_, _*_}
 use native.Mathlib.Omega.{arith}
 use borrow.Author.Needs.{needs}
 use lib.ListN.{length, take, drop}
 use denote.Ref.{now}
-use Rattle.unpack.specs.Reading.{Run, going, goesOn}
+use Rattle.unpack.specs.Reading.{Run, goesOn}
 use Rattle.unpack.specs.Codeblocks.{codeblocks}
-use Rattle.unpack.specs.Subband.{goesOnAt, subbandData}
+use Rattle.unpack.specs.Subband.{subbandData}
 use Rattle.unpack.specs.Bounds.{after, codeblocksOf, Placed}
 use Rattle.unpack.specs.declared.codeblocks.Codeblocks.{Codeblocks}
 use Rattle.unpack.proofs.HeaderLaws.{codeblocks-placed, data-ends, data-stops}

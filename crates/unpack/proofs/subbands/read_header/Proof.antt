@@ -1,6 +1,6 @@
 -- `unpack::subbands::read_header` meets its contract: its numbers are those of the definition, and each way on is a law of the header.
 -- Assumes nothing.
-use mathlib.Core.Path.{_≡_, refl, sym, ap, _∙_}
+use mathlib.Core.Path.{_≡_, sym, ap, _∙_}
 use mathlib.Core.Logic.{⊎-elim}
 use mathlib.Core.Bool.{false}
 use mathlib.Core.List.{List}

@@ -1,16 +1,10 @@
 -- `unpack::subbands::read_subband` meets its contract: each way on after the header and the data is a law of `subband`.
 -- Assumes nothing.
-use mathlib.Core.Path.{_≡_, refl, sym, ap, _∙_, subst}
-use mathlib.Core.List.{List}
-use Prim.Native.Nat.{ℕ}
-use native.Mathlib.Omega.{arith}
+use mathlib.Core.Path.{sym, ap, _∙_, subst}
 use borrow.Author.Needs.{needs}
 use borrow.Author.Tests.{not-true, not-false}
-use lib.ListN.{length}
-use denote.Ref.{now}
 use Rattle.unpack.specs.Reading.{Run, goesOn}
 use Rattle.unpack.specs.Prediction.{prediction}
-use Rattle.unpack.specs.Subband.{subbandFrom}
 use Rattle.unpack.specs.Bounds.{after, codeblocksOf, Placed}
 use Rattle.unpack.specs.declared.codeblocks.Codeblocks.{Codeblocks}
 use Rattle.unpack.proofs.HeaderLaws.{codeblocks-placed, predicted-inside, stopped-stays, not-first, not-intra, first-intra}
