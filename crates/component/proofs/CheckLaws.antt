@@ -1,8 +1,8 @@
 -- Laws of the checks: the bounds that a passed check gives.
 -- Assumes nothing.
-use mathlib.Core.Path.{_≡_, refl, sym, ap, _∙_}
+use mathlib.Core.Path.{_≡_, refl}
 use mathlib.Core.Bool.{Bool, true, false, not, cond, _&&_}
-use Prim.Native.Nat.{ℕ, suc, _+_, _*_, _≤_, _<_}
+use Prim.Native.Nat.{ℕ, suc, _*_, _≤_}
 use native.Mathlib.Nat.{mul-le-mul}
 use native.Mathlib.Omega.{arith}
 use lib.Dec.{leb}
@@ -10,7 +10,6 @@ use lib.ListN.{getD}
 use borrow.Author.Tests.{leb-true}
 use Rattle.base.proofs.Everys.{and-left, and-right, all-at}
 use Rattle.component.specs.Checks.{inRange, unpacks, transforms, sizesInRange, depthInRange, waveletInRange, countsInRange, codeblocksInRange, planesFit, areaOf, refusalOf}
-use Rattle.component.specs.Sizes.{paddedSize}
 use Rattle.component.specs.declared.parameters.Parameters.{Parameters}
 use Rattle.component.specs.declared.parameters.Lengths.{Lengths}
 use Rattle.component.specs.declared.parameters.Job.{Job}

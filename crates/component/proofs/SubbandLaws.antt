@@ -1,14 +1,13 @@
 -- Laws of subbands: where each orientation starts.
 -- Assumes nothing.
-use mathlib.Core.Path.{_≡_, refl, sym, ap, _∙_}
+use mathlib.Core.Path.{_≡_, refl}
 use mathlib.Core.Logic.{_≢_}
 use Prim.Native.Nat.{ℕ, zero, suc, _+_, _-_, _*_, _/_, _%_, _≤_, _<_}
 use native.Mathlib.Decide.{ℕ-discrete}
 use native.Mathlib.Omega.{arith}
 use borrow.Author.Tests.{ne-eqb}
 use Rattle.component.specs.Subbands.{Orientation, LL, HL, LH, HH, subbandCount, subbandLevel, detailOf, orientation, leftOf, topOf, subbandAt}
-use Rattle.component.specs.Sizes.{paddedSize, bandSize, sizeAt}
-use Rattle.component.specs.declared.subbands.Subband.{Subband}
+use Rattle.component.specs.Sizes.{paddedSize, bandSize}
 use Rattle.component.proofs.SizeLaws.{sizeAt-mono, sizeAt-padded, band-sizeAt, sizeAt-double, low-most}
 
 -- past LL the remainder by 3 tells the orientation

@@ -1,15 +1,15 @@
 -- The subbands tile the coefficient plane: every entry lies in exactly one.
 -- Assumes nothing.
-use mathlib.Core.Path.{_≡_, refl, sym, ap, _∙_, subst}
+use mathlib.Core.Path.{_≡_, refl, sym, subst}
 use mathlib.Core.Logic.{_≢_}
 use Prim.Native.Nat.{ℕ, zero, suc, _+_, _-_, _*_, _/_, _%_, _≤_, _<_}
 use native.Mathlib.Decide.{decLt}
 use native.Mathlib.Omega.{arith}
 use Rattle.component.specs.Sizes.{paddedSize, bandSize, sizeAt}
-use Rattle.component.specs.Subbands.{Orientation, subbandCount, subbandLevel, orientation, detailOf, leftOf, topOf, subbandAt, Lies}
+use Rattle.component.specs.Subbands.{subbandCount, subbandLevel, orientation, detailOf, leftOf, topOf, subbandAt, Lies}
 use Rattle.component.specs.declared.subbands.Subband.{Subband}
 use Rattle.component.proofs.SizeLaws.{sizeAt-padded, band-sizeAt}
-use Rattle.component.proofs.SubbandLaws.{detail, left-of-LH, left-of-others, top-of-HL, top-of-others}
+use Rattle.component.proofs.SubbandLaws.{detail}
 
 -- exactly one of the subbands below a count has the entry
 pub record ExactlyOne (subband : ℕ → Subband) (count row column : ℕ) : Type 0 where

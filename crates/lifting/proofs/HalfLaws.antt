@@ -1,10 +1,10 @@
 -- The laws of a row that stands as two halves: what stands where, and what a step makes of it.
 -- Assumes nothing.
-use mathlib.Core.Path.{_≡_, refl, sym, ap, _∙_}
+use mathlib.Core.Path.{_≡_, sym, ap, _∙_}
 use mathlib.Core.Bool.{Bool, true, false, not, cond, _&&_, _||_, and-true}
 use mathlib.Core.List.{List}
-use Prim.Native.Nat.{ℕ, zero, suc, _+_, _-_, _*_, _/_, _%_, _≤_, _<_, min}
-use native.Mathlib.Nat.{zero-add, add-zero}
+use Prim.Native.Nat.{ℕ, _+_, _-_, _*_, _/_, _%_, _≤_, _<_, min}
+use native.Mathlib.Nat.{add-zero}
 use native.Mathlib.Decide.{decLt}
 use native.Mathlib.Omega.{arith}
 use lib.Dec.{eqb}
@@ -15,7 +15,7 @@ use Rattle.base.specs.Every.{allBelow}
 use Rattle.base.specs.Fill.{fill}
 use Rattle.base.specs.Range.{fits32}
 use Rattle.base.proofs.Everys.{all-same}
-use Rattle.base.proofs.Fills.{fill-same, getD-fill-in}
+use Rattle.base.proofs.Fills.{getD-fill-in}
 use Rattle.lines.specs.Buffers.{heldEntry, woven}
 use Rattle.lines.specs.Sums.{sumBelow, tapAt, changed}
 use Rattle.lines.proofs.BufferLaws.{woven-even, woven-odd}

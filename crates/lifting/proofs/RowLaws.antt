@@ -1,18 +1,14 @@
 -- The laws of passes over rows: each row is lifted by itself, whatever the other rows hold and however many there are.
 -- Assumes nothing.
-use mathlib.Core.Path.{_≡_, refl, sym, ap, _∙_}
-use mathlib.Core.Bool.{Bool, true, false, not, _&&_, _||_, and-assoc, and-true}
-use mathlib.Core.List.{List, [], _∷_, _++_, map, map-append}
-use Prim.Native.Nat.{ℕ, zero, suc, _+_, _*_, _≤_, _<_}
+use mathlib.Core.Path.{_≡_, refl, sym, ap}
+use mathlib.Core.Bool.{Bool, true, false, _&&_, and-assoc}
+use mathlib.Core.List.{List, [], _∷_, map}
+use Prim.Native.Nat.{ℕ, zero, suc, _+_, _*_}
 use native.Mathlib.Nat.{mul-suc}
 use native.Mathlib.Numerals.{add-one, add-two}
-use native.Mathlib.Omega.{arith}
-use lib.ListN.{length, getD, take, drop, take-append-drop}
-use lib.Seq.{take-suc}
 use Rattle.base.specs.Every.{allBelow}
-use Rattle.base.specs.Range.{fits32}
-use Rattle.base.proofs.Everys.{all-from, and-false}
-use Rattle.lifting.specs.Lifting.{Line, Step, lift, changes}
+use Rattle.base.proofs.Everys.{all-from}
+use Rattle.lifting.specs.Lifting.{Line, Step, lift}
 use Rattle.lifting.specs.Layout.{Agree}
 use Rattle.lifting.specs.Passes.{Picture, rows, run, runAll, newFit, allNewFit, assigns}
 use Rattle.lifting.proofs.Lifts.{EvenLength, lift-same}

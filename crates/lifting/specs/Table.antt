@@ -1,12 +1,10 @@
 -- The table of steps as the code holds it, and the step that each row of it stands for. The rows are the code's own form; the filters that
 -- they are tied to stand in Filters.antt.
-use Prim.Native.Nat.{ℕ, _+_, _*_, _^_, _≤_, _<_}
+use Prim.Native.Nat.{ℕ, _+_, _^_, _≤_, _<_}
 use mathlib.Core.Bool.{Bool, true, false, cond}
-use mathlib.Core.List.{List}
-use lib.IntN.{ℤ, pos, _-ℤ_, natAbs}
-use lib.ListN.{length, getD, take}
+use lib.IntN.{pos, _-ℤ_, natAbs}
+use lib.ListN.{getD, take}
 use Rattle.lifting.specs.Lifting.{Step, StepType, type1, type2, type3, type4}
-use Rattle.lifting.specs.Filters.{filterOf}
 use Rattle.lifting.specs.declared.filters.LiftingStep.{LiftingStep}
 
 -- A step's type, from the places it changes and whether it adds.

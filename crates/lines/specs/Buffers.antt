@@ -1,11 +1,11 @@
 -- Line buffers: one half of a row, low or high, from entry 4 on, with room for 4 entries on either side. And the sizes of numbers that keep
 -- sums within 64 bits. These are the code's own forms; no definition of the format rests on them.
-use Prim.Native.Nat.{ℕ, _+_, _-_, _*_, _/_, _%_, _^_, _≤_, _<_, min}
+use Prim.Native.Nat.{ℕ, _+_, _-_, _/_, _%_, _≤_, _<_, min}
 use mathlib.Core.Bool.{Bool, cond}
 use mathlib.Core.List.{List}
 use lib.Dec.{eqb}
 use lib.IntN.{ℤ, pos, _+ℤ_, natAbs}
-use lib.ListN.{length, getD}
+use lib.ListN.{getD}
 use Rattle.base.specs.Floor.{floorDiv}
 
 -- The first w entries are at most m in size.

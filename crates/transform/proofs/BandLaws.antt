@@ -1,9 +1,8 @@
 -- Laws of the interleaved layout: what the turns of `interleave_bands` leave in the plane, and that it is document 01's interleave.
 -- Assumes nothing.
 use mathlib.Core.Path.{_≡_, refl, sym, ap, _∙_, subst}
-use mathlib.Core.Bool.{true, false, cond}
 use mathlib.Core.List.{List}
-use Prim.Native.Nat.{ℕ, suc, _+_, _*_, _/_, _%_, _≤_, _<_}
+use Prim.Native.Nat.{ℕ, _+_, _*_, _/_, _%_, _≤_, _<_}
 use native.Mathlib.Nat.{mul-assoc, mul-comm}
 use mathlib.Core.Logic.{_≢_}
 use native.Mathlib.Decide.{decLt, ℕ-discrete}

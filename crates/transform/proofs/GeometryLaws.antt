@@ -1,16 +1,16 @@
 -- Laws of the levels' frames: the picture of depth n stands in the work plane with rows that are apart, and the level below in every
 -- other row of it.
 -- Assumes nothing.
-use mathlib.Core.Path.{_≡_, refl, sym, ap, _∙_, subst}
+use mathlib.Core.Path.{_≡_, sym, _∙_, subst}
 use mathlib.Core.List.{List}
 use mathlib.Core.Bool.{true}
-use Prim.Native.Nat.{ℕ, zero, suc, _+_, _-_, _*_, _%_, _^_, _≤_, _<_}
+use Prim.Native.Nat.{ℕ, suc, _+_, _-_, _*_, _%_, _^_, _≤_}
 use native.Mathlib.Nat.{mul-assoc, mul-comm, mul-one, mul-le-mul-left, mul-le-mul-right, pow-suc}
 use native.Mathlib.Omega.{arith}
 use lib.IntN.{ℤ}
 use lib.ListN.{length}
 use lib.Pow.{pow-pos, shl-exact}
-use Rattle.component.specs.Sizes.{sizeAt, paddedSize, bandSize}
+use Rattle.component.specs.Sizes.{sizeAt, paddedSize}
 use Rattle.component.specs.Checks.{sizesInRange, depthInRange, areaOf}
 use Rattle.component.specs.declared.parameters.Parameters.{Parameters}
 use Rattle.component.proofs.SizeLaws.{sizeAt-power, sizeAt-mono, sizeAt-least, sizeAt-rest, sizeAt-padded, low-some, padded-most}

@@ -2,10 +2,9 @@
 -- Assumes nothing.
 use mathlib.Core.Path.{_≡_, refl}
 use mathlib.Core.List.{List, [], _∷_}
-use Prim.Native.Nat.{ℕ, zero, suc, _+_, _*_}
+use Prim.Native.Nat.{_+_, _*_}
 use lib.IntN.{ℤ, pos, negsuc}
 use lib.ListN.{getD}
-use Rattle.base.specs.Every.{allBelow}
 use Rattle.component.specs.Sizes.{sizeAt}
 use Rattle.lifting.specs.Lifting.{changesEven, adds, clamp, readPlace, tapSum, rounding, update, changes, lift, exchangeType, exchange}
 use Rattle.lifting.specs.Passes.{Picture, run, runAll}

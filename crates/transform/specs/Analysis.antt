@@ -1,9 +1,8 @@
 -- Document 01, "Synthesis and analysis": analysis, over whole numbers of any size, and the numbers it assigns.
 use Prim.Native.Nat.{ℕ, zero, suc, _+_, _-_, _*_}
-use mathlib.Core.Bool.{Bool, true, false, cond, _&&_}
+use mathlib.Core.Bool.{Bool, true, cond, _&&_}
 use mathlib.Core.List.{List, [], _∷_, _++_, map, reverse}
 use lib.Dec.{ltb}
-use lib.IntN.{ℤ}
 use Rattle.component.specs.Sizes.{sizeAt}
 use Rattle.lifting.specs.Lifting.{Step, exchange}
 use Rattle.lifting.specs.Filters.{Filter}

@@ -16,7 +16,7 @@ use Rattle.component.specs.declared.parameters.Answer.{Answer}
 use Rattle.component.specs.declared.parameters.Lengths.{Lengths}
 use Rattle.component.specs.declared.parameters.Job.the-variants.{Synthesise}
 use Rattle.lifting.specs.Passes.{Picture}
-use Rattle.lifting.specs.Filters.{Filter, filterOf}
+use Rattle.lifting.specs.Filters.{filterOf}
 use Rattle.transform.specs.Synthesis.{synthesis, firstBadLevel}
 use Rattle.transform.specs.Analysis.{analysis, analysisFits}
 use Rattle.lifting.specs.Planes.{pictureOf, raster}

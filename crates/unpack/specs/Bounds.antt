@@ -1,6 +1,6 @@
 -- The code's own forms: a quantiser with its factor and offset at hand, where codeblocks stand in the plane, and a run as the code has it.
 -- No definition of the format rests on them.
-use Prim.Native.Nat.{ℕ, _+_, _*_, _^_, _≤_, _<_}
+use Prim.Native.Nat.{ℕ, _+_, _*_, _≤_}
 use mathlib.Core.Path.{_≡_}
 use mathlib.Core.List.{List}
 use lib.IntN.{ℤ}

@@ -10,9 +10,8 @@ use Rattle.component.specs.Checks.{refusalOf}
 use Rattle.component.specs.Subbands.{subbandCount}
 use Rattle.component.specs.declared.parameters.Parameters.{Parameters}
 use Rattle.component.specs.declared.parameters.Answer.{Answer}
-use Rattle.component.specs.declared.parameters.Lengths.{Lengths}
 use Rattle.component.specs.declared.parameters.Job.the-variants.{Unpack}
-use Rattle.unpack.specs.Reading.{Run, goesOn}
+use Rattle.unpack.specs.Reading.{goesOn}
 use Rattle.unpack.specs.Subband.{subband}
 use Rattle.unpack.specs.declared.progress.Progress.{Progress}
 use Rattle.unpack.specs.declared.progress.Progress.the-variants.{At, Refused}

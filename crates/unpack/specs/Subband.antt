@@ -1,12 +1,11 @@
 -- Document 01, "One subband": its header and its data. Here a run goes on at a byte. The plane that a subband starts with holds zeros where
 -- the subband stands: what is not read stays zero.
 use Prim.Native.Nat.{ℕ, zero, suc, _+_, _*_, _/_}
-use mathlib.Core.Bool.{Bool, true, false, cond, _&&_}
+use mathlib.Core.Bool.{false, cond}
 use mathlib.Core.List.{List}
 use lib.Dec.{eqb, ltb}
 use lib.IntN.{ℤ}
 use lib.ListN.{length, getD, take, drop}
-use Rattle.base.specs.Walk.{walk}
 use Rattle.component.specs.Sizes.{paddedSize}
 use Rattle.component.specs.Subbands.{subbandAt}
 use Rattle.component.specs.declared.parameters.Parameters.{Parameters}

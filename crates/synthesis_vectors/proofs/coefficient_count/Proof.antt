@@ -1,6 +1,5 @@
 -- `synthesis_vectors::coefficient_count` meets its contract: no padded size is above 4096, and none is below the size.
 -- Assumes nothing.
-use mathlib.Core.Path.{_≡_}
 use Prim.Native.Nat.{_*_, _≤_}
 use native.Mathlib.Nat.{mul-le-mul}
 use native.Mathlib.Omega.{arith}

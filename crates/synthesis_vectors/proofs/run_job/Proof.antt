@@ -1,10 +1,10 @@
 -- `synthesis_vectors::run_job` is safe: the coefficients are at most 65536, and the samples are no more than they.
 -- Assumes nothing.
-use mathlib.Core.Path.{_≡_, sym}
+use mathlib.Core.Path.{sym}
 use Prim.Native.Nat.{_*_, _≤_}
 use native.Mathlib.Omega.{arith}
 use borrow.Author.Needs.{needs}
-use lib.ListN.{length, length-append, length-take, length-drop}
+use lib.ListN.{length-append, length-take, length-drop}
 use lib.Seq.{length-take-le}
 use Rattle.synthesis_vectors.proofs.run_job.Statement.{statement}
 use Rattle.synthesis_vectors.proofs.run_job.Tie as tie

@@ -1,11 +1,9 @@
 -- `transform::crop` meets its contract: the rows that are copied lie within both planes, and the samples are all of them.
 -- Assumes nothing.
-use mathlib.Core.Path.{_≡_, refl, sym, ap, _∙_}
-use Prim.Native.Nat.{ℕ, _*_, _≤_}
+use mathlib.Core.Path.{sym, _∙_}
 use native.Mathlib.Nat.{mul-comm, mul-le-mul-right}
 use native.Mathlib.Omega.{arith}
 use borrow.Author.Needs.{needs}
-use lib.ListN.{length}
 use Rattle.component.specs.Checks.{areaOf}
 use Rattle.component.specs.Sizes.{paddedSize}
 use Rattle.component.proofs.SizeLaws.{padded-least}

@@ -1,6 +1,5 @@
 -- `transform::extent_of` meets its contract: each field is what a callee says of it.
 -- Assumes nothing.
-use mathlib.Core.Path.{_≡_, sym, ap, _∙_}
 use native.Mathlib.Omega.{arith}
 use borrow.Author.Needs.{needs}
 use Rattle.component.proofs.CheckLaws.{width-most, height-most, depth-most}

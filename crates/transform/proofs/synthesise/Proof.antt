@@ -1,19 +1,17 @@
 -- `transform::synthesise` meets its contract: refused, overflowed or accepted, each way ends as the job's definition says.
 -- Assumes nothing.
-use mathlib.Core.Path.{_≡_, refl, sym, ap, _∙_, subst}
-use mathlib.Core.Bool.{true, false}
-use Prim.Native.Nat.{ℕ, _*_, _≤_}
+use mathlib.Core.Path.{_≡_, sym, _∙_}
+use mathlib.Core.Bool.{true}
 use native.Mathlib.Omega.{arith}
 use borrow.Author.Needs.{needs}
 use borrow.Author.Tests.{not-false}
-use lib.ListN.{length}
 use denote.Ref.{now}
 use Rattle.base.proofs.Fills.{zeros-length}
 use Rattle.component.specs.Checks.{sizesInRange, depthInRange, waveletInRange, refusalOf}
 use Rattle.component.specs.declared.parameters.Job.the-variants.{Synthesise}
 use Rattle.component.proofs.CheckLaws.{passed, width-least}
 use Rattle.lifting.specs.Planes.{pictureOf}
-use Rattle.transform.specs.Job.{outcome, unchanged, overflowed, accepted, synthesised, lengthsOf, badLevel, pictureFrom, paddedWidth}
+use Rattle.transform.specs.Job.{outcome, unchanged, overflowed, accepted, lengthsOf, pictureFrom, paddedWidth}
 use Rattle.component.proofs.SizeLaws.{padded-least}
 use Rattle.transform.proofs.Rasters.{raster-same}
 use Rattle.transform.proofs.Jobs.{Fitted, fitted, job-refused, job-overflowed, job-accepted}

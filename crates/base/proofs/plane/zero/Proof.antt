@@ -1,13 +1,13 @@
 -- `base::plane::zero` meets its contract: after i turns the plane is the one that came, with i zeros stored from its start.
 -- Assumes nothing.
-use mathlib.Core.Path.{_≡_, refl, sym, ap, _∙_}
-use Prim.Native.Nat.{ℕ, _≤_, _-_}
+use mathlib.Core.Path.{_≡_, refl, sym, _∙_}
+use Prim.Native.Nat.{_≤_, _-_}
 use native.Mathlib.Omega.{arith}
 use borrow.Author.Needs.{needs}
 use lib.IntN.{pos}
 use lib.ListN.{length, length-set}
-use Rattle.base.specs.Fill.{fill, zerosLike}
-use Rattle.base.proofs.Fills.{fill-none, fill-more, fill-zeros, length-fill}
+use Rattle.base.specs.Fill.{fill}
+use Rattle.base.proofs.Fills.{fill-none, fill-more, fill-zeros}
 use Rattle.base.proofs.plane.zero.Statement.{statement}
 use Rattle.base.proofs.plane.zero.Tie as tie
 use Rattle.base.proofs.plane.zero.Reads as reads

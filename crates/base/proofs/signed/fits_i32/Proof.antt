@@ -1,6 +1,6 @@
 -- `base::signed::fits_i32` meets its contract: the two tests are the two ends of the range.
 -- Assumes nothing.
-use mathlib.Core.Path.{_≡_, sym, ap, _∙_}
+use mathlib.Core.Path.{_∙_}
 use mir.Syntax.{w64}
 use Rattle.base.proofs.Ranges.{back, fits32-upper, fits32-lower}
 use Rattle.base.proofs.signed.fits_i32.Statement.{statement}

@@ -1,6 +1,5 @@
 -- `base::signed::narrow` meets its contract: the caller has shown that the number fits.
 -- Assumes nothing.
-use mathlib.Core.Path.{_≡_, _∙_}
 use mir.Syntax.{w32, w64}
 use Rattle.base.proofs.Ranges.{back, fits32-below}
 use Rattle.base.proofs.signed.narrow.Statement.{statement}

@@ -1,14 +1,13 @@
 -- `base::signed::third` meets its contract: a number below 0 is mirrored at −1/2, divided and mirrored back.
 -- Assumes nothing.
-use mathlib.Core.Path.{_≡_, _∙_}
+use mathlib.Core.Path.{_≡_}
 use mathlib.Core.Bool.{true, false}
 use Prim.Native.Nat.{ℕ, _/_, _<_, _^_}
 use native.Mathlib.Nat.{lt-of-le-of-lt, div-le-self}
 use lib.Dec.{lit<}
-use lib.IntN.{ℤ, pos, negsuc}
+use lib.IntN.{pos, negsuc}
 use lib.Signed.{mag, ltZ, mag-shr}
 use mir.Syntax.{w64}
-use mir.Val.{toZ, ofZ}
 use Rattle.base.specs.Floor.{floorDiv}
 use Rattle.base.proofs.Ranges.{back, mirror-below, mirror-pos, third-below, third-above}
 use Rattle.base.proofs.signed.third.Statement.{statement}

@@ -1,6 +1,5 @@
 -- `base::signed::widen` meets its contract: a number of 32 bits fits 64.
 -- Assumes nothing.
-use mathlib.Core.Path.{_≡_, _∙_}
 use native.Mathlib.Omega.{arith}
 use mir.Syntax.{w32, w64}
 use Rattle.base.proofs.Ranges.{back}

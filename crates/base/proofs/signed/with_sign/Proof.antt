@@ -1,6 +1,5 @@
 -- `base::signed::with_sign` meets its contract: the size fits, and so does its opposite.
 -- Assumes nothing.
-use mathlib.Core.Path.{_≡_, sym, ap, _∙_}
 use borrow.Author.Needs.{needs}
 use lib.IntN.{pos, negℤ}
 use mir.Syntax.{w64}

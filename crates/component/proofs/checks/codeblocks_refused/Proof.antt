@@ -1,6 +1,6 @@
 -- `component::checks::codeblocks_refused` meets its contract: the counts are tested where the job unpacks.
 -- Assumes nothing.
-use mathlib.Core.Path.{_≡_, sym, ap, _∙_}
+use mathlib.Core.Path.{ap}
 use mathlib.Core.Bool.{not}
 use borrow.Author.Needs.{needs}
 use Rattle.component.proofs.checks.codeblocks_refused.Statement.{statement}

@@ -1,6 +1,5 @@
 -- `component::checks::in_range` meets its contract: the two tests are the two ends of the range.
 -- Assumes nothing.
-use mathlib.Core.Path.{_≡_}
 use borrow.Author.Tests.{le-leb, lt-leb}
 use Rattle.component.proofs.checks.in_range.Statement.{statement}
 use Rattle.component.proofs.checks.in_range.Tie as tie

@@ -1,10 +1,10 @@
 -- `component::checks::refusal` meets its contract: the tests are made in the order of their numbers, and the first that fails answers.
 -- Assumes nothing.
-use mathlib.Core.Path.{_≡_, sym, ap, _∙_}
+use mathlib.Core.Path.{_≡_, sym, _∙_}
 use mathlib.Core.Bool.{true, false, not, _&&_}
 use borrow.Author.Needs.{needs}
 use borrow.Author.Tests.{not-true, not-false}
-use Rattle.component.specs.Checks.{unpacks, transforms, sizesInRange, depthInRange, waveletInRange, codeblocksInRange, planesFit}
+use Rattle.component.specs.Checks.{unpacks, transforms, sizesInRange, depthInRange, waveletInRange, codeblocksInRange}
 use Rattle.component.proofs.CheckLaws.{refused-1, refused-2, refused-3, refused-4, refused-5, refused-none}
 use Rattle.component.proofs.checks.refusal.Statement.{statement}
 use Rattle.component.proofs.checks.refusal.Tie as tie

@@ -1,6 +1,5 @@
 -- `component::checks::sizes_in_range` meets its contract: both numbers are tested, the second where the first passes.
 -- Assumes nothing.
-use mathlib.Core.Path.{_≡_, sym, _∙_}
 use borrow.Author.Needs.{needs}
 use Rattle.component.specs.Checks.{sizesInRange}
 use Rattle.component.proofs.checks.sizes_in_range.Statement.{statement}

@@ -1,6 +1,6 @@
 -- `component::checks::wavelet_refused` meets its contract: the index is tested where the job transforms.
 -- Assumes nothing.
-use mathlib.Core.Path.{_≡_, sym, ap, _∙_}
+use mathlib.Core.Path.{ap}
 use mathlib.Core.Bool.{not}
 use borrow.Author.Needs.{needs}
 use Rattle.component.specs.Checks.{waveletInRange}

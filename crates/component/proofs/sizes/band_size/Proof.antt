@@ -1,6 +1,5 @@
 -- `component::sizes::band_size` meets its contract: a shift divides by a power of two.
 -- Assumes nothing.
-use mathlib.Core.Path.{_≡_, sym, ap, _∙_}
 use borrow.Author.Needs.{needs}
 use Rattle.component.specs.Sizes.{bandSize}
 use Rattle.component.proofs.SizeLaws.{band-size-from-1}

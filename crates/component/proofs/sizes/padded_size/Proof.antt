@@ -1,7 +1,6 @@
 -- `component::sizes::padded_size` meets its contract: 2^depth is at most 16, so nothing wraps.
 -- Assumes nothing.
-use mathlib.Core.Path.{_≡_, sym, ap, _∙_}
-use Prim.Native.Nat.{ℕ, _^_}
+use Prim.Native.Nat.{_^_}
 use native.Mathlib.Omega.{arith}
 use borrow.Author.Needs.{needs}
 use Rattle.component.specs.Sizes.{paddedSize}

@@ -1,10 +1,9 @@
 -- `component::subbands::left_of` meets its contract: past LL the remainder by 3 tells the orientation.
 -- Assumes nothing.
-use mathlib.Core.Path.{_≡_, sym, ap, _∙_}
-use Prim.Native.Nat.{ℕ, _%_}
+use mathlib.Core.Path.{sym, ap, _∙_}
+use Prim.Native.Nat.{_%_}
 use native.Mathlib.Omega.{arith}
-use borrow.Author.Needs.{needs}
-use Rattle.component.specs.Subbands.{orientation, leftOf, detailOf}
+use Rattle.component.specs.Subbands.{orientation, leftOf}
 use Rattle.component.proofs.SubbandLaws.{detail, left-of-LH, left-of-others}
 use Rattle.component.proofs.subbands.left_of.Statement.{statement}
 use Rattle.component.proofs.subbands.left_of.Tie as tie

@@ -1,6 +1,5 @@
 -- `component::subbands::subband_at` meets its contract: each field is what a callee says of it.
 -- Assumes nothing.
-use mathlib.Core.Path.{_≡_, sym, ap, _∙_}
 use borrow.Author.Needs.{needs}
 use Rattle.component.specs.Subbands.{subbandAt, subbandLevel}
 use Rattle.component.proofs.subbands.subband_at.Statement.{statement}

@@ -1,10 +1,8 @@
 -- `component::subbands::top_of` meets its contract: past LL the remainder by 3 tells the orientation.
 -- Assumes nothing.
-use mathlib.Core.Path.{_≡_, sym, ap, _∙_}
-use Prim.Native.Nat.{ℕ, _%_}
-use native.Mathlib.Omega.{arith}
-use borrow.Author.Needs.{needs}
-use Rattle.component.specs.Subbands.{orientation, topOf, detailOf}
+use mathlib.Core.Path.{sym, ap, _∙_}
+use Prim.Native.Nat.{_%_}
+use Rattle.component.specs.Subbands.{orientation, topOf}
 use Rattle.component.proofs.SubbandLaws.{detail, top-of-HL, top-of-others}
 use Rattle.component.proofs.subbands.top_of.Statement.{statement}
 use Rattle.component.proofs.subbands.top_of.Tie as tie

@@ -1,9 +1,9 @@
 -- `transform::bands::copy_rows` meets its contract: after each turn the rows so far are copied, and no row meets another.
 -- Assumes nothing.
-use mathlib.Core.Path.{_≡_, refl, sym, ap, _∙_}
+use mathlib.Core.Path.{_≡_, refl, _∙_}
 use Prim.Native.Nat.{ℕ, _+_, _-_, _*_, _≤_, _<_}
 use native.Mathlib.Omega.{arith}
-use lib.IntN.{ℤ, pos}
+use lib.IntN.{pos}
 use lib.ListN.{length, getD}
 use Rattle.base.proofs.Grids.{row-end, rows-stored}
 use Rattle.lifting.specs.Planes.{pictureOf}

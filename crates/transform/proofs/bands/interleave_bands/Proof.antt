@@ -1,10 +1,9 @@
 -- `transform::bands::interleave_bands` meets its contract: each turn stores HL into an even row and LH and HH into an odd one, and no row meets another.
 -- Assumes nothing.
-use mathlib.Core.Path.{_≡_, refl, sym, ap, _∙_}
+use mathlib.Core.Path.{_≡_, refl, _∙_}
 use Prim.Native.Nat.{ℕ, _+_, _-_, _*_, _≤_, _<_}
 use native.Mathlib.Omega.{arith}
-use lib.IntN.{ℤ, pos}
-use lib.ListN.{length, getD}
+use lib.ListN.{length}
 use Rattle.base.proofs.Grids.{row-end}
 use Rattle.transform.proofs.BandLaws.{Turned, turned-none, turned-more, turned-all}
 use Rattle.transform.proofs.bands.interleave_bands.Statement.{statement}

@@ -1,10 +1,9 @@
 -- `transform::levels::copy_low_band` meets its contract: the rows of the low band are apart in both planes.
 -- Assumes nothing.
-use mathlib.Core.Path.{_≡_, refl, sym, ap, _∙_, subst}
-use Prim.Native.Nat.{ℕ, _*_, _%_, _^_, _≤_}
+use mathlib.Core.Path.{_≡_}
+use Prim.Native.Nat.{_*_, _%_, _^_}
 use native.Mathlib.Omega.{arith}
 use borrow.Author.Needs.{needs}
-use lib.ListN.{length}
 use Rattle.transform.proofs.GeometryLaws.{size-shifted, low-apart, low-inside, low-narrow, low-whole}
 use Rattle.transform.proofs.levels.copy_low_band.Statement.{statement}
 use Rattle.transform.proofs.levels.copy_low_band.Tie as tie
