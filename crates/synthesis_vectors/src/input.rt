@@ -3,6 +3,7 @@ ghost use Prim.Native.Nat.{_<_};
 ghost use lib.ListN.{length};
 use component::parameters::Parameters;
 use libc::STDIN_FILENO;
+use vector_io::two_bytes;
 
 // The parameters that a job's header gives: width, height, depth and wavelet.
 pub fn parameters_of(header: &[u8; 6]) -> Parameters {
@@ -42,13 +43,6 @@ fn read_coefficient(plane: &mut [i32], place: usize) -> bool
     let low = two_bytes(bytes[2], bytes[3]);
     plane[place] = twos_complement(high * 65536 + low);
     true
-}
-
-// The number of two bytes.
-fn two_bytes(high: u8, low: u8) -> u32
-    ensures { λ r. ⌜ r < 65536 ⌝ }
-{
-    (high as u32) * 256 + (low as u32)
 }
 
 // The signed number that 32 bits stand for.

@@ -15,6 +15,8 @@ use component::parameters::Parameters;
 use component::sizes::padded_size;
 use libc::STDIN_FILENO;
 use libc::STDOUT_FILENO;
+use vector_io::bad_input;
+use vector_io::fill_plane;
 
 // Runs the jobs of the input. A proved loop has to end, so this one counts its turns down, from a number that no run uses up.
 fn main() {
@@ -42,12 +44,6 @@ fn run_next(
         return bad_input();
     }
     run_job(parameters_of(&header), coefficients, work, samples)
-}
-
-// Says that the input is bad, and answers that there is no other job.
-fn bad_input() -> bool {
-    io::write_all(STDOUT_FILENO, b"bad input\n");
-    false
 }
 
 // Reads the coefficients of a job and runs it. Answers whether the input may have another.
@@ -99,12 +95,12 @@ fn size_in_range(size: u32) -> bool
     1 <= size && size <= 4096
 }
 
-// Synthesises in planes full of rubbish, and writes the answer, the samples, and what is wrong with the planes.
+// Synthesises in planes that hold something already, and writes the answer, the samples, and what is wrong with the planes.
 fn synthesise_and_print(p: Parameters, coefficients: &[i32], work: &mut [i32], samples: &mut [i32])
     requires { ⌜ 1 ≤ p .width ⌝ }
 {
-    fill(work, 7);
-    fill(samples, 7);
+    fill_plane(work, 7);
+    fill_plane(samples, 7);
     let answer = transform::synthesise(p, coefficients, work, samples);
     print_answer(p, answer);
     let status = answer.status;
@@ -116,15 +112,6 @@ fn synthesise_and_print(p: Parameters, coefficients: &[i32], work: &mut [i32], s
     }
     if status == 10 && !is_zero(samples) {
         io::write_all(STDOUT_FILENO, b"samples not zero\n");
-    }
-}
-
-// Puts one number into the whole plane.
-fn fill(plane: &mut [i32], number: i32) {
-    let mut i = 0;
-    while i < plane.len() {
-        plane[i] = number;
-        i += 1;
     }
 }
 

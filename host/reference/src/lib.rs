@@ -5,8 +5,8 @@
 //!
 //! The three jobs are [`unpack()`], [`synthesise`] and [`decode`]; [`analyse`] is the forward
 //! transform; [`mod@encode`] makes bodies for tests; [`recording`] reads and writes recordings;
-//! [`jobs`] is the command's plain text job format; [`vectors`] makes stored vectors for synthesise,
-//! with the generator [`random`].
+//! [`jobs`] is the command's plain text job format; [`vectors`] and [`mod@unpack_vectors`] make stored
+//! vectors for synthesise and unpack, with the generator [`random`].
 
 pub mod codes;
 pub mod encode;
@@ -16,6 +16,7 @@ pub mod random;
 pub mod recording;
 pub mod transform;
 pub mod unpack;
+pub mod unpack_vectors;
 pub mod vectors;
 
 pub use encode::{encode_body, quantise, quantise_plane, EncodeOptions, Rounding, SubbandOptions};

@@ -1,5 +1,6 @@
 //! The command: decodes a recording, answers the jobs of a text file, or writes stored vectors.
 
+use reference::vectors::Vectors;
 use std::io::Write;
 use std::process::ExitCode;
 
@@ -10,6 +11,8 @@ const USAGE: &str = "usage: reference COMMAND FILE..
   reference analyse FILE   answer the analyse jobs of a text file
   reference synthesis-vectors STDIN_FILE STDOUT_FILE
                            write the input of crates/synthesis_vectors and the output it owes
+  reference unpack-vectors STDIN_FILE STDOUT_FILE
+                           the same for crates/unpack_vectors
 
 A job file has one job a line; # starts a comment:
 
@@ -39,7 +42,12 @@ fn main() -> ExitCode {
         ["decode", file] => read(file).map(|bytes| reference::read_recording(&bytes)),
         ["jobs", file] => run(file, reference::jobs::run_jobs),
         ["analyse", file] => run(file, reference::jobs::run_analyses),
-        ["synthesis-vectors", stdin, stdout] => write_vectors(stdin, stdout),
+        ["synthesis-vectors", stdin, stdout] => {
+            write_vectors(&reference::vectors::synthesis_vectors(), stdin, stdout)
+        }
+        ["unpack-vectors", stdin, stdout] => {
+            write_vectors(&reference::unpack_vectors::unpack_vectors(), stdin, stdout)
+        }
         _ => {
             eprint!("{USAGE}");
             return ExitCode::from(2);
@@ -72,8 +80,7 @@ fn run(file: &str, jobs: fn(&str) -> Result<String, String>) -> Result<String, S
 }
 
 /// Writes the stored vectors' input and output, and prints nothing; or why a file cannot be written.
-fn write_vectors(stdin: &str, stdout: &str) -> Result<String, String> {
-    let vectors = reference::vectors::synthesis_vectors();
+fn write_vectors(vectors: &Vectors, stdin: &str, stdout: &str) -> Result<String, String> {
     for (file, bytes) in [
         (stdin, &vectors.input[..]),
         (stdout, vectors.output.as_bytes()),

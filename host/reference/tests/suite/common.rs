@@ -4,7 +4,10 @@ use reference::codes::BitWriter;
 use reference::jobs::INITIAL_ENTRY;
 use reference::params::{padded_area, sample_area};
 pub use reference::random::Random;
+use reference::vectors::Vectors;
 use reference::{decode, synthesise, unpack, Answer, Parameters};
+use std::path::{Path, PathBuf};
+use std::process::Command;
 
 /// Parameters with one codeblock at every level.
 pub fn parameters(width: u32, height: u32, depth: u32, wavelet: u32, intra: bool) -> Parameters {
@@ -73,4 +76,38 @@ pub fn subband_bytes(quantiser: u64, data: &[u8]) -> Vec<u8> {
     let mut bytes = header.to_bytes(false);
     bytes.extend(data);
     bytes
+}
+
+/// The folder of a proved program.
+pub fn program_folder(name: &str) -> PathBuf {
+    Path::new(env!("CARGO_MANIFEST_DIR"))
+        .join("../../crates")
+        .join(name)
+}
+
+/// Fails unless a file has these bytes.
+pub fn assert_stored(file: &Path, bytes: &[u8]) {
+    let stored = std::fs::read(file).unwrap();
+    assert!(stored == bytes, "{} differs", file.display());
+}
+
+/// Fails unless a command of the reference writes these vectors, and says where it can't.
+pub fn assert_writes_vectors(command: &str, vectors: &Vectors) {
+    let [stdin, stdout] = ["stdin", "stdout"]
+        .map(|name| PathBuf::from(env!("CARGO_TARGET_TMPDIR")).join(format!("{command}.{name}")));
+    let write = |stdin: &Path, stdout: &Path| {
+        Command::new(env!("CARGO_BIN_EXE_reference"))
+            .arg(command)
+            .args([stdin, stdout])
+            .output()
+            .unwrap()
+    };
+    let output = write(&stdin, &stdout);
+    assert_eq!(output.status.code(), Some(0));
+    assert!(output.stdout.is_empty() && output.stderr.is_empty());
+    assert_stored(&stdin, &vectors.input);
+    assert_stored(&stdout, vectors.output.as_bytes());
+    let output = write(&stdin.join("no folder"), &stdout);
+    assert_eq!(output.status.code(), Some(1));
+    assert!(!output.stderr.is_empty());
 }

@@ -9,5 +9,6 @@ mod refusals;
 mod round_trips;
 mod stated_values;
 mod synthesis_vectors;
+mod unpack_vectors;
 mod vectors;
 mod worked_case;

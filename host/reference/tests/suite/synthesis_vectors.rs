@@ -1,50 +1,21 @@
 //! The stored vectors of the proved program `synthesis_vectors`.
 
-use crate::common::answer;
+use crate::common::{answer, assert_stored, assert_writes_vectors, program_folder};
 use reference::params::padded_area;
 use reference::vectors::{level_end_fits, run, synthesis_jobs, synthesis_vectors, Job};
 use reference::Answer;
-use std::path::{Path, PathBuf};
-use std::process::Command;
-
-/// The program's folder.
-fn folder() -> PathBuf {
-    Path::new(env!("CARGO_MANIFEST_DIR")).join("../../crates/synthesis_vectors")
-}
-
-/// Fails unless a file has these bytes.
-fn assert_stored(file: &Path, bytes: &[u8]) {
-    let stored = std::fs::read(file).unwrap();
-    assert!(stored == bytes, "{} differs", file.display());
-}
 
 #[test]
 fn stored_vectors_are_those_of_the_reference() {
     let vectors = synthesis_vectors();
-    assert_stored(&folder().join("stdin"), &vectors.input);
-    assert_stored(&folder().join("stdout"), vectors.output.as_bytes());
+    let folder = program_folder("synthesis_vectors");
+    assert_stored(&folder.join("stdin"), &vectors.input);
+    assert_stored(&folder.join("stdout"), vectors.output.as_bytes());
 }
 
 #[test]
 fn the_command_writes_the_vectors() {
-    let [stdin, stdout] = ["vectors.stdin", "vectors.stdout"]
-        .map(|name| PathBuf::from(env!("CARGO_TARGET_TMPDIR")).join(name));
-    let write = |stdin: &Path, stdout: &Path| {
-        Command::new(env!("CARGO_BIN_EXE_reference"))
-            .arg("synthesis-vectors")
-            .args([stdin, stdout])
-            .output()
-            .unwrap()
-    };
-    let output = write(&stdin, &stdout);
-    assert_eq!(output.status.code(), Some(0));
-    assert!(output.stdout.is_empty() && output.stderr.is_empty());
-    let vectors = synthesis_vectors();
-    assert_stored(&stdin, &vectors.input);
-    assert_stored(&stdout, vectors.output.as_bytes());
-    let output = write(&stdin.join("no folder"), &stdout);
-    assert_eq!(output.status.code(), Some(1));
-    assert!(!output.stderr.is_empty());
+    assert_writes_vectors("synthesis-vectors", &synthesis_vectors());
 }
 
 #[test]

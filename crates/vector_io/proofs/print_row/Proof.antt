@@ -1,10 +1,10 @@
--- `synthesis_vectors::output::print_row` is safe and ends: the column stays within the row.
+-- `vector_io::print_row` is safe and ends: the column stays within the row.
 -- Assumes nothing.
 use Prim.Native.Nat.{_≤_, _-_}
 use native.Mathlib.Omega.{arith}
 use lib.ListN.{length}
-use Rattle.synthesis_vectors.proofs.output.print_row.Statement.{statement}
-use Rattle.synthesis_vectors.proofs.output.print_row.Tie as tie
+use Rattle.vector_io.proofs.print_row.Statement.{statement}
+use Rattle.vector_io.proofs.print_row.Tie as tie
 
 abbrev Inv-loop : tie.InvT-loop
 Inv-loop row x₀ x = x ≤ length row
@@ -15,14 +15,14 @@ abbrev μ-loop : tie.MeasureT-loop
 loop-holds : tie.Need-loop-holds Inv-loop μ-loop
 loop-holds c = omega arith
 
-mul-print-sample : tie.Need-mul-print-sample Inv-loop μ-loop
-mul-print-sample c = omega arith
+mul-print-entry : tie.Need-mul-print-entry Inv-loop μ-loop
+mul-print-entry c = omega arith
 
-shared-slice-copy-out-print-sample : tie.Need-shared-slice-copy-out-print-sample Inv-loop μ-loop
-shared-slice-copy-out-print-sample c = omega arith
+shared-slice-copy-out-print-entry : tie.Need-shared-slice-copy-out-print-entry Inv-loop μ-loop
+shared-slice-copy-out-print-entry c = omega arith
 
-print-sample-requires : tie.Need-print-sample-requires Inv-loop μ-loop
-print-sample-requires c κs = tt
+print-entry-requires : tie.Need-print-entry-requires Inv-loop μ-loop
+print-entry-requires c κs = tt
 
 add-x : tie.Need-add-x Inv-loop μ-loop
 add-x c = omega arith
@@ -46,9 +46,9 @@ print-row-spec =
     Inv-loop
     μ-loop
     loop-holds
-    mul-print-sample
-    shared-slice-copy-out-print-sample
-    print-sample-requires
+    mul-print-entry
+    shared-slice-copy-out-print-entry
+    print-entry-requires
     add-x
     loop-less
     loop-again

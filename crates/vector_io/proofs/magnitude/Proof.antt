@@ -1,4 +1,4 @@
--- `synthesis_vectors::output::magnitude` is safe: a number below 0 is mirrored at −1/2, and then at least 0 as any other.
+-- `vector_io::magnitude` is safe: a number below 0 is mirrored at −1/2, and then at least 0 as any other.
 -- Assumes nothing.
 use mathlib.Core.Path.{_≡_}
 use mathlib.Core.Bool.{true, false}
@@ -10,8 +10,8 @@ use lib.Signed.{mag, ltZ, nonNeg}
 use mir.Syntax.{w32, w64}
 use mir.Val.{Fits}
 use Rattle.base.proofs.Ranges.{back, mirror-below}
-use Rattle.synthesis_vectors.proofs.output.magnitude.Statement.{statement}
-use Rattle.synthesis_vectors.proofs.output.magnitude.Tie as tie
+use Rattle.vector_io.proofs.magnitude.Statement.{statement}
+use Rattle.vector_io.proofs.magnitude.Tie as tie
 
 -- a number that is not below 0 is a natural number
 plain : (z : ℤ) → ltZ z (pos 0) ≡ false → mag z < 2 ^ 31 → T (nonNeg z) × Fits w64 (natAbs z)

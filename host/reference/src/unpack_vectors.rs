@@ -1,0 +1,636 @@
+//! Stored vectors for unpack: what the proved program `unpack_vectors` reads, and what it owes.
+//!
+//! The input is a sequence of jobs, every number big-endian: width (2 bytes), height (2), depth (1),
+//! wavelet (1), intra (1, 0 or 1), codeblocks across at levels 0 to 4 (5), codeblocks down (5), the
+//! length of the lent plane (2), the number of bytes (2), then the bytes.
+//!
+//! The output has for each job a line, and a line with the whole plane, refused or not, which was full
+//! of 7s before the call:
+//!
+//! ```text
+//! WxH depth D wavelet V intra I bytes N: status S place P
+//! 1 -2 3
+//! ```
+//!
+//! The bytes come from [`mod@crate::encode`], a seeded generator, or single bits, and every answer and
+//! plane from [`crate::unpack()`], so the vectors are the same in every run.
+
+use crate::codes::BitWriter;
+use crate::encode::{encode_body, EncodeOptions, SubbandOptions};
+use crate::jobs::INITIAL_ENTRY;
+use crate::params::{padded_area, subbands, Answer, Parameters};
+use crate::random::Random;
+use crate::unpack;
+use crate::vectors::Vectors;
+
+/// The most entries a plane of a job may have.
+pub const MAX_ENTRIES: usize = 4096;
+
+/// The most bytes a job may have.
+pub const MAX_BYTES: usize = 16384;
+
+/// One call of unpack.
+pub struct Job {
+    pub parameters: Parameters,
+    pub plane_length: usize,
+    pub bytes: Vec<u8>,
+}
+
+/// The stored vectors.
+pub fn unpack_vectors() -> Vectors {
+    let mut vectors = Vectors {
+        input: Vec::new(),
+        output: String::new(),
+    };
+    for job in unpack_jobs() {
+        vectors.input.extend(job_bytes(&job));
+        vectors.output.push_str(&job_text(&job));
+    }
+    vectors
+}
+
+/// Every job of the stored vectors, in order.
+pub fn unpack_jobs() -> Vec<Job> {
+    let mut random = Random::new(16);
+    let mut jobs = refused_before_reading();
+    for (p, number) in headers_at() {
+        jobs.extend(header_jobs(&mut random, &p, number));
+    }
+    jobs.extend(code_jobs());
+    jobs.extend(extreme_jobs());
+    jobs.extend(prediction_jobs());
+    jobs.extend(early_end_jobs());
+    jobs.extend(codeblock_jobs(&mut random));
+    jobs.extend(index_jobs());
+    jobs.extend(random_jobs(&mut random));
+    jobs.extend(cut_jobs(&mut random));
+    jobs.extend(noise_jobs(&mut random));
+    jobs
+}
+
+/// The answer of unpack to a job, and its plane.
+pub fn run(job: &Job) -> (Answer, Vec<i32>) {
+    let mut plane = vec![INITIAL_ENTRY; job.plane_length];
+    let answer = unpack(&job.parameters, &job.bytes, &mut plane);
+    (answer, plane)
+}
+
+/// A job as the program reads it.
+fn job_bytes(job: &Job) -> Vec<u8> {
+    let p = &job.parameters;
+    let mut bytes = Vec::new();
+    bytes.extend(u16::to_be_bytes(p.width as u16));
+    bytes.extend(u16::to_be_bytes(p.height as u16));
+    bytes.extend([p.depth as u8, p.wavelet as u8, u8::from(p.intra)]);
+    bytes.extend(p.codeblocks_across.map(|count| count as u8));
+    bytes.extend(p.codeblocks_down.map(|count| count as u8));
+    bytes.extend(u16::to_be_bytes(job.plane_length as u16));
+    bytes.extend(u16::to_be_bytes(job.bytes.len() as u16));
+    bytes.extend(&job.bytes);
+    bytes
+}
+
+/// What the program owes for a job.
+fn job_text(job: &Job) -> String {
+    let p = &job.parameters;
+    let (answer, plane) = run(job);
+    let numbers: Vec<String> = plane.iter().map(i32::to_string).collect();
+    format!(
+        "{}x{} depth {} wavelet {} intra {} bytes {}: status {} place {}\n{}\n",
+        p.width,
+        p.height,
+        p.depth,
+        p.wavelet,
+        u8::from(p.intra),
+        job.bytes.len(),
+        answer.status,
+        answer.place,
+        numbers.join(" ")
+    )
+}
+
+/// Parameters with one codeblock at every level.
+fn parameters(width: u32, height: u32, depth: u32, intra: bool) -> Parameters {
+    Parameters {
+        width,
+        height,
+        depth,
+        wavelet: 0,
+        intra,
+        codeblocks_across: [1; 5],
+        codeblocks_down: [1; 5],
+    }
+}
+
+/// The same parameters with these codeblock counts at every level.
+fn with_codeblocks(p: &Parameters, across: u32, down: u32) -> Parameters {
+    Parameters {
+        codeblocks_across: [across; 5],
+        codeblocks_down: [down; 5],
+        ..p.clone()
+    }
+}
+
+/// A job whose plane has the length it needs.
+fn job(p: &Parameters, bytes: Vec<u8>) -> Job {
+    Job {
+        parameters: p.clone(),
+        plane_length: padded_area(p),
+        bytes,
+    }
+}
+
+/// The bytes of a text of 0s and 1s, spaces passed over, the last byte filled up with 0s.
+fn bits(text: &str) -> Vec<u8> {
+    let mut writer = BitWriter::new();
+    for digit in text.chars().filter(|digit| *digit != ' ') {
+        writer.bit(digit == '1');
+    }
+    writer.to_bytes(false)
+}
+
+/// The bytes of numbers' codes, one after the other, the last byte filled up with 0s.
+fn numbers(list: &[u64]) -> Vec<u8> {
+    let mut writer = BitWriter::new();
+    for &number in list {
+        writer.number(number);
+    }
+    writer.to_bytes(false)
+}
+
+/// The bytes of signed numbers' codes, one after the other, the last byte filled up with 0s.
+fn signed_numbers(list: &[i64]) -> Vec<u8> {
+    let mut writer = BitWriter::new();
+    for &number in list {
+        writer.signed_number(number);
+    }
+    writer.to_bytes(false)
+}
+
+/// One subband's bytes: a header for this data and index, then the data.
+fn subband_bytes(index: u64, data: &[u8]) -> Vec<u8> {
+    let mut bytes = numbers(&[data.len() as u64, index]);
+    bytes.extend(data);
+    bytes
+}
+
+/// Bytes, then others.
+fn joined(mut first: Vec<u8>, then: &[u8]) -> Vec<u8> {
+    first.extend(then);
+    first
+}
+
+/// Refusals 1, 2, 4 and 5, alone and together; a count above the depth and a wavelet don't matter.
+fn refused_before_reading() -> Vec<Job> {
+    /// A change that puts one fault into a job.
+    type Fault = fn(&mut Job);
+    let faults: [Fault; 4] = [
+        |job| job.parameters.width = 0,
+        |job| job.parameters.depth = 5,
+        |job| job.parameters.codeblocks_down[1] = 0,
+        |job| job.plane_length += 1,
+    ];
+    let base = || job(&parameters(3, 2, 1, true), vec![0xFF; 6]);
+    let mut jobs = Vec::new();
+    for set in 0..16 {
+        let mut job = base();
+        for (k, fault) in faults.iter().enumerate() {
+            if set >> k & 1 == 1 {
+                fault(&mut job);
+            }
+        }
+        jobs.push(job);
+    }
+    let others: [Fault; 14] = [
+        |job| job.parameters.height = 0,
+        |job| job.parameters.width = 4097,
+        |job| job.parameters.height = 4097,
+        |job| job.parameters.width = 65535,
+        |job| job.parameters.height = 65535,
+        |job| job.parameters.depth = 255,
+        |job| job.parameters.codeblocks_across[0] = 0,
+        |job| job.parameters.codeblocks_across[1] = 0,
+        |job| job.parameters.codeblocks_down[0] = 0,
+        |job| job.parameters.codeblocks_down[2] = 0,
+        |job| job.parameters.wavelet = 7,
+        |job| job.plane_length -= 1,
+        |job| job.plane_length = 0,
+        |job| job.plane_length = 6,
+    ];
+    for fault in others {
+        let mut job = base();
+        fault(&mut job);
+        jobs.push(job);
+    }
+    jobs
+}
+
+/// Parameters and the number of a subband, for faults in its header: the first and the last, and the
+/// ends of levels between.
+fn headers_at() -> Vec<(Parameters, usize)> {
+    let mut list = Vec::new();
+    for (depth, number) in [(0, 0), (1, 1), (1, 3), (2, 6), (3, 0), (3, 4), (4, 12)] {
+        let intra = number % 2 == 0;
+        list.push((parameters(5, 3, depth, intra), number));
+    }
+    list
+}
+
+/// Jobs that are in order up to a subband, and then have each fault of a header, or what just isn't
+/// one; each with and without bytes behind it.
+///
+/// A header starts on a byte boundary and a number's code has an odd number of bits, so bytes can only
+/// end inside a length before the bit that may end it, and inside an index before a data bit.
+fn header_jobs(random: &mut Random, p: &Parameters, number: usize) -> Vec<Job> {
+    let longest = (1 << 32) - 2;
+    let behind = vec![0x80; subbands(p).len() - number];
+    let mut jobs = Vec::new();
+    for header in [
+        // A length that ends early, after 0, 4, 4, 8 and 28 data bits.
+        vec![],
+        vec![0x00],
+        bits("01010101"),
+        vec![0x00; 2],
+        vec![0x00; 7],
+        // A length of 31 data bits, and of more.
+        joined(vec![0x00; 7], &bits("000000 1 1")),
+        joined(vec![0x00; 7], &bits("000000 0 1")),
+        numbers(&[longest, 0]),
+        numbers(&[longest + 1, 0]),
+        numbers(&[(1 << 40) - 1, 0]),
+        // An index that ends early, after 0, 2, 4 and 6 data bits.
+        bits("0001001 0"),
+        bits("001 00 00 0"),
+        bits("001 01 00 00 01 01 01 0"),
+        bits("0101011 00 00 00 00 0"),
+        // An index of 31 data bits, and of more.
+        numbers(&[1, longest]),
+        numbers(&[1, longest + 1]),
+        // An index in range, and above it.
+        numbers(&[1, 115]),
+        numbers(&[1, 116]),
+        numbers(&[1, 255]),
+        // A length that overruns: by one byte or not at all, by many, and with an index above its range.
+        numbers(&[behind.len() as u64, 0]),
+        numbers(&[behind.len() as u64 + 1, 0]),
+        numbers(&[1000, 115]),
+        numbers(&[1000, 116]),
+        numbers(&[(1 << 31) - 1, 7]),
+        numbers(&[1 << 31, 7]),
+        numbers(&[longest, 115]),
+        numbers(&[longest, 116]),
+        numbers(&[longest + 1, 116]),
+        // A length of 0, with other bits before the boundary.
+        bits("1 0000000"),
+        bits("1 1111111"),
+        bits("1 0101010"),
+    ] {
+        let start = start_of_body(random, p, number);
+        let bytes = joined(start, &header);
+        jobs.push(job(p, bytes.clone()));
+        jobs.push(job(p, joined(bytes, &behind)));
+    }
+    jobs
+}
+
+/// The bytes of the subbands before a number, some of them skipped, all of them small numbers.
+fn start_of_body(random: &mut Random, p: &Parameters, number: usize) -> Vec<u8> {
+    let mut bytes = Vec::new();
+    for band in &subbands(p)[..number] {
+        let data: Vec<i64> = (0..band.width * band.height)
+            .map(|_| random.range(-2, 2))
+            .collect();
+        if random.flag() {
+            bytes.push(0x80);
+        } else {
+            bytes.extend(subband_bytes(
+                random.range(0, 8) as u64,
+                &signed_numbers(&data),
+            ));
+        }
+    }
+    bytes
+}
+
+/// Numbers of 30, 31 and 32 data bits in a subband of three values, both signs, at the first value and
+/// at the last.
+fn code_jobs() -> Vec<Job> {
+    let p = parameters(3, 1, 0, false);
+    let mut jobs = Vec::new();
+    for magnitude in [
+        (1 << 30) - 1,
+        (1 << 31) - 2,
+        (1 << 31) - 1,
+        1 << 31,
+        (1 << 32) - 2,
+        (1 << 32) - 1,
+        1 << 32,
+        (1i64 << 33) - 2,
+    ] {
+        for number in [magnitude, -magnitude] {
+            for list in [[number, 1, -2], [1, -2, number]] {
+                for index in [0, 1] {
+                    jobs.push(job(&p, subband_bytes(index, &signed_numbers(&list))));
+                }
+            }
+        }
+    }
+    // 31 data bits that end the data: the bits that are missing end the number and make it negative.
+    for last in ["00 00", "00 01", "01 00"] {
+        let data = ["1 1", &"00".repeat(29), last].concat();
+        jobs.push(job(&p, subband_bytes(0, &bits(&data))));
+    }
+    // Data of 0s: 28 data bits and the end of the data, then 31 and what follows them.
+    jobs.push(job(&p, subband_bytes(0, &[0; 7])));
+    for last in ["000000 1 0", "000000 1 1", "000000 0 0", "000000 0 1"] {
+        let data = joined(vec![0; 7], &bits(last));
+        jobs.push(job(&p, subband_bytes(0, &data)));
+    }
+    jobs.push(job(&p, subband_bytes(0, &[0; 100])));
+    jobs
+}
+
+/// The largest and the smallest value, and one beyond, at every place of a subband of two values, and
+/// in each subband of a depth of 1; and the same values through factors.
+fn extreme_jobs() -> Vec<Job> {
+    let values = [
+        i64::from(i32::MAX),
+        i64::from(i32::MAX) + 1,
+        i64::from(i32::MIN) + 1,
+        i64::from(i32::MIN),
+        i64::from(i32::MIN) - 1,
+    ];
+    let mut jobs = Vec::new();
+    for value in values {
+        for intra in [false, true] {
+            let p = parameters(2, 1, 0, intra);
+            for list in [[value, 0], [0, value], [-1, value], [value, 1], [value, -1]] {
+                jobs.push(job(&p, subband_bytes(0, &signed_numbers(&list))));
+            }
+        }
+        let p = parameters(2, 2, 1, true);
+        for place in 0..4 {
+            let mut plane = [3, -4, 5, -6];
+            plane[place] = value;
+            let options = EncodeOptions::uniform(&p, SubbandOptions::default());
+            jobs.push(job(&p, encode_body(&p, &plane, &options)));
+        }
+    }
+    let p = parameters(1, 1, 0, false);
+    for index in [1, 2, 3, 4, 7, 50, 77, 102, 111, 112, 113, 114, 115] {
+        let factor = i128::from(crate::unpack::quantiser_factor(index));
+        let near = ((4i128 << 31) / factor) as i64;
+        for m in near - 1..=near + 1 {
+            for number in [m, -m] {
+                let data = signed_numbers(&[number]);
+                jobs.push(job(&p, subband_bytes(u64::from(index), &data)));
+            }
+        }
+    }
+    jobs
+}
+
+/// Predictions that round, that reach the extremes, and that leave 32 bits, in the top row, in the
+/// left column and inside.
+fn prediction_jobs() -> Vec<Job> {
+    let (max, min) = (i64::from(i32::MAX), i64::from(i32::MIN));
+    let rows: [[i64; 4]; 8] = [
+        [max, 0, 0, 0],
+        [max, 1, 0, 0],
+        [min, 0, 0, -1],
+        [min, -1, 0, 0],
+        [1, max - 1, 0, 0],
+        [1, max, 0, 0],
+        [-1, min + 1, 1, 0],
+        [-1, min, 0, 0],
+    ];
+    let squares: [[i64; 4]; 8] = [
+        [-1, 0, 0, 0],
+        [-1, 0, 1, 0],
+        [max, 0, 0, 0],
+        [max, 0, 0, 1],
+        [min, 0, 0, 0],
+        [min, 0, 0, -1],
+        [max, min, min, min],
+        [min, max, max, max],
+    ];
+    let mut jobs = Vec::new();
+    for numbers in rows {
+        for (width, height) in [(4, 1), (1, 4)] {
+            let p = parameters(width, height, 0, true);
+            jobs.push(job(&p, subband_bytes(0, &signed_numbers(&numbers))));
+        }
+    }
+    for numbers in squares {
+        for intra in [false, true] {
+            let p = parameters(2, 2, 0, intra);
+            jobs.push(job(&p, subband_bytes(0, &signed_numbers(&numbers))));
+        }
+    }
+    // A value beyond 32 bits that prediction would bring back.
+    for first in [-1, 1] {
+        let beyond = if first < 0 { max + 1 } else { min - 1 };
+        let p = parameters(2, 1, 0, true);
+        jobs.push(job(&p, subband_bytes(0, &signed_numbers(&[first, beyond]))));
+    }
+    // Level 0 skipped, with a depth and without.
+    jobs.push(job(&parameters(3, 3, 0, true), vec![0x80]));
+    jobs.push(job(&parameters(3, 3, 1, true), vec![0x80; 4]));
+    // Prediction goes through a flagged codeblock.
+    for intra in [false, true] {
+        let p = with_codeblocks(&parameters(4, 4, 0, intra), 2, 2);
+        for data in ["0 0010 0011 1 1 1 1 1", "1 0 0010 1 1 1 1 1", "1 1 1 1"] {
+            jobs.push(job(&p, subband_bytes(0, &bits(data))));
+        }
+    }
+    // A refusal 9 of prediction comes after the whole subband was read.
+    for list in [[max, 1, 1 << 40, 0], [max, 1, 0, max + 1]] {
+        let p = parameters(4, 1, 0, true);
+        jobs.push(job(&p, subband_bytes(0, &signed_numbers(&list))));
+    }
+    jobs
+}
+
+/// Data that ends before a flag, before a number, inside a number, before its sign, and that has bits
+/// or bytes more than it needs; each for one codeblock, and for one of 4 values and one of 6.
+fn early_end_jobs() -> Vec<Job> {
+    let one = parameters(5, 2, 0, false);
+    let two = with_codeblocks(&one, 2, 1);
+    let texts = [
+        // One codeblock: it ends before a number, before a sign, before a data bit, and before the bit
+        // that may end a number.
+        "0010 0011",
+        "11111 001",
+        "1 00 00 00 1",
+        "1111111 0",
+        "1 00 01 01 0",
+        "01010101",
+        "00 00 01 00",
+        "00000000 00000000",
+        "0010 0010 0010 00 00",
+        // Two codeblocks: the same, and before the second flag, where the first codeblock has a flag or
+        // not.
+        "0 0010 011",
+        "0 1111 001",
+        "0 00 00 00 1",
+        "0 1111 0 1 0",
+        "0 1111 0 00",
+        "0 1 0010 1 1",
+        "0 1111 1 11",
+        "1 0 0010 1 0",
+        "1 0 111111 0010 1010",
+        // More than is needed.
+        "1111111111 000000 0000000000000000",
+    ];
+    let mut jobs = Vec::new();
+    for text in texts {
+        for p in [&one, &two] {
+            let bytes = subband_bytes(0, &bits(text));
+            jobs.push(job(p, bytes.clone()));
+            // What follows the stated data isn't read: neither 0s nor 1s.
+            jobs.push(job(p, joined(bytes.clone(), &[0, 0, 0])));
+            jobs.push(job(p, joined(bytes, &[0xFF, 0xFF])));
+        }
+    }
+    jobs
+}
+
+/// Flags set and not, empty codeblocks, and 255 codeblocks each way over one value.
+fn codeblock_jobs(random: &mut Random) -> Vec<Job> {
+    let mut jobs = Vec::new();
+    let sizes = [(1, 1), (2, 3), (5, 4), (8, 1)];
+    let counts = [(1, 1), (2, 1), (1, 2), (3, 3), (7, 2), (2, 9)];
+    for (width, height) in sizes {
+        for (across, down) in counts {
+            for flag_zero_codeblocks in [false, true] {
+                let p = with_codeblocks(&parameters(width, height, 1, random.flag()), across, down);
+                let options = SubbandOptions {
+                    skip_if_zero: false,
+                    flag_zero_codeblocks,
+                    ..SubbandOptions::default()
+                };
+                jobs.push(sparse_job(random, &p, options));
+            }
+        }
+    }
+    // Only the last of the codeblocks has the value, behind the flags of all the others.
+    let p = with_codeblocks(&parameters(1, 1, 0, true), 255, 255);
+    let flags = |fill: u8, last: &[u8]| joined(vec![fill; 8128], last);
+    for data in [
+        vec![0xFF],
+        vec![0x00],
+        flags(0x00, &bits("0 011 1 000")),
+        flags(0xFF, &bits("1 011 1 000")),
+    ] {
+        jobs.push(job(&p, subband_bytes(10, &data)));
+    }
+    for (across, down) in [(255, 1), (1, 255)] {
+        let p = with_codeblocks(&parameters(1, 1, 0, false), across, down);
+        for last in ["000000 0 0", "000000 0 1", "000000 1 0"] {
+            let data = joined(vec![0; 31], &bits(last));
+            jobs.push(job(
+                &p,
+                subband_bytes(10, &joined(data, &bits("0100 1111"))),
+            ));
+        }
+        let p = with_codeblocks(&parameters(3, 2, 1, true), across, down);
+        jobs.push(sparse_job(random, &p, SubbandOptions::default()));
+    }
+    jobs
+}
+
+/// A job whose numbers are small and half of them 0.
+fn sparse_job(random: &mut Random, p: &Parameters, options: SubbandOptions) -> Job {
+    let plane: Vec<i64> = (0..padded_area(p))
+        .map(|_| random.pick(&[0, 0, 0, 1, -1, 9]))
+        .collect();
+    let options = EncodeOptions::uniform(p, options);
+    job(p, encode_body(p, &plane, &options))
+}
+
+/// Every quantiser index, with the numbers 0, 1, -1, 2, -3 and 100.
+fn index_jobs() -> Vec<Job> {
+    let p = parameters(6, 1, 0, false);
+    (0..=116)
+        .map(|index| {
+            let most = if index < 96 { 100 } else { 1 };
+            let data = signed_numbers(&[0, 1, -1, 2, -3, most]);
+            job(&p, subband_bytes(index, &data))
+        })
+        .collect()
+}
+
+/// Every depth at several sizes, intra and not, with indices, codeblocks and layouts at random, and
+/// with bytes behind the component.
+fn random_jobs(random: &mut Random) -> Vec<Job> {
+    let sizes = [(1, 1), (2, 1), (1, 3), (3, 5), (7, 6), (16, 8), (17, 9)];
+    let mut jobs = Vec::new();
+    for depth in 0..=4 {
+        for (width, height) in sizes {
+            for intra in [false, true] {
+                let mut p = parameters(width, height, depth, intra);
+                p.codeblocks_across = [0; 5].map(|_| random.range(1, 4) as u32);
+                p.codeblocks_down = [0; 5].map(|_| random.range(1, 4) as u32);
+                let spread = 1 << random.range(0, 12);
+                let behind = random.range(0, 3) as usize;
+                let body = random_body(random, &p, spread);
+                jobs.push(job(&p, joined(body, &vec![0x5A; behind])));
+            }
+        }
+    }
+    jobs
+}
+
+/// A body in order, of numbers up to a magnitude, half of them 0.
+fn random_body(random: &mut Random, p: &Parameters, spread: i64) -> Vec<u8> {
+    let plane: Vec<i64> = (0..padded_area(p))
+        .map(|_| i64::from(random.flag()) * random.range(-spread, spread))
+        .collect();
+    let options = EncodeOptions {
+        subbands: subbands(p).iter().map(|_| random_options(random)).collect(),
+    };
+    encode_body(p, &plane, &options)
+}
+
+/// Some way to write a subband.
+fn random_options(random: &mut Random) -> SubbandOptions {
+    SubbandOptions {
+        quantiser: random.range(0, 40) as u64,
+        skip_if_zero: random.flag(),
+        flag_zero_codeblocks: random.flag(),
+        drop_trailing_ones: random.flag(),
+        slack: vec![0xA5; random.range(0, 2) as usize],
+        fill: random.flag(),
+        stated_length: None,
+    }
+}
+
+/// A component of depth 2 whose bytes end at every place.
+fn cut_jobs(random: &mut Random) -> Vec<Job> {
+    let p = with_codeblocks(&parameters(3, 4, 2, true), 2, 1);
+    let body = random_body(random, &p, 5);
+    (0..=body.len())
+        .map(|end| job(&p, body[..end].to_vec()))
+        .collect()
+}
+
+/// Components in order with one bit turned over, and bytes at random.
+fn noise_jobs(random: &mut Random) -> Vec<Job> {
+    let mut jobs = Vec::new();
+    for k in 0..60 {
+        let p = with_codeblocks(
+            &parameters(4, 3, k % 5, random.flag()),
+            1 + k % 3,
+            1 + k % 2,
+        );
+        let mut body = random_body(random, &p, 1 << (k % 8));
+        let bit = random.range(0, 8 * body.len() as i64 - 1) as usize;
+        body[bit / 8] ^= 1 << (bit % 8);
+        jobs.push(job(&p, body));
+        let noise = (0..random.range(0, 40))
+            .map(|_| random.range(0, 255) as u8)
+            .collect();
+        jobs.push(job(&p, noise));
+    }
+    jobs
+}
