@@ -6,7 +6,7 @@ use libc::STDIN_FILENO;
 use vector_io::two_bytes;
 
 // The parameters that a job's header gives: width, height, depth and wavelet.
-pub fn parameters_of(header: &[u8; 6]) -> Parameters {
+pub(crate) fn parameters_of(header: &[u8; 6]) -> Parameters {
     let counts = [1u32; 5];
     Parameters {
         width: two_bytes(header[0], header[1]),
@@ -20,7 +20,7 @@ pub fn parameters_of(header: &[u8; 6]) -> Parameters {
 }
 
 // Reads a whole plane from the input. False where the input ends before the plane does.
-pub fn read_plane(plane: &mut [i32]) -> bool {
+pub(crate) fn read_plane(plane: &mut [i32]) -> bool {
     let mut i = 0;
     while i < plane.len() {
         if !read_coefficient(plane, i) {

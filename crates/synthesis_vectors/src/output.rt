@@ -7,7 +7,7 @@ use vector_io::print_named;
 use vector_io::print_row;
 
 // Writes the line of a job and its answer.
-pub fn print_answer(p: Parameters, answer: Answer) {
+pub(crate) fn print_answer(p: Parameters, answer: Answer) {
     print_named(b"", p.width as u64);
     print_named(b"x", p.height as u64);
     print_named(b" depth ", p.depth as u64);
@@ -18,7 +18,7 @@ pub fn print_answer(p: Parameters, answer: Answer) {
 }
 
 // Writes the rows of a picture, a line each.
-pub fn print_rows(samples: &[i32], width: usize)
+pub(crate) fn print_rows(samples: &[i32], width: usize)
     requires { ⌜ 1 ≤ width ⌝ }
 {
     let mut start = 0;

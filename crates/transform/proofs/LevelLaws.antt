@@ -11,6 +11,7 @@ use lib.Dec.{eqb}
 use borrow.Author.Tests.{lt-ltb, le-ltb, eq-eqb, ne-eqb}
 use Rattle.base.proofs.Everys.{and-left, and-right}
 use Rattle.component.specs.Sizes.{sizeAt}
+use Rattle.component.proofs.SizeLaws.{sizeAt-least}
 use Rattle.lifting.specs.Filters.{Filter}
 use Rattle.transform.specs.Synthesis.{synthesisPasses, interleave, synthesis, levelFits, firstBadLevel}
 use Rattle.transform.specs.Analysis.{analysisPasses, lowBand, separate, levelAnalysis, analysis, analysisFits}
@@ -61,16 +62,10 @@ interleave-back bh bw low rest coefficients P lows others row column r c =
     rw (LL, HL, LH, HH, lowRow, lowColumn, highRow, highColumn, add-sub-cancel-left bh, add-sub-cancel-left bw, choice P)
     (ap₂ P (place row) (place column))
 
--- the sizes of the picture of a depth are not 0
-sizeAt-some : (size n : ℕ) → 1 ≤ size → 1 ≤ sizeAt size n
-unfolding sizeAt
-sizeAt-some size zero some = some
-sizeAt-some size (suc n) some = omega (arith, sizeAt-some size n some)
-
--- and from depth 1 on they are even
+-- the sizes of the picture of a depth from 1 on are even
 sizeAt-even : (size n : ℕ) → 1 ≤ size → EvenLength (sizeAt size (suc n))
 unfolding sizeAt
-sizeAt-even size n some = record { even = omega arith; some = omega (arith, sizeAt-some size n some) }
+sizeAt-even size n some = record { even = omega arith; some = omega (arith, sizeAt-least size n some) }
 
 -- What the rest of the analysis goes on with after the passes of level n + 1.
 abbrev lowAfter : Filter → ℕ → ℕ → ℕ → Picture → Picture

@@ -3,7 +3,7 @@ use component::parameters::Parameters;
 use vector_io::two_bytes;
 
 // The parameters that a job's header gives: width, height, depth, wavelet, intra, and the codeblocks across and down at each level.
-pub fn parameters_of(header: &[u8; 21]) -> Parameters {
+pub(crate) fn parameters_of(header: &[u8; 21]) -> Parameters {
     Parameters {
         width: two_bytes(header[0], header[1]),
         height: two_bytes(header[2], header[3]),
@@ -16,12 +16,12 @@ pub fn parameters_of(header: &[u8; 21]) -> Parameters {
 }
 
 // How many entries the plane of a job has.
-pub fn plane_length(header: &[u8; 21]) -> usize {
+pub(crate) fn plane_length(header: &[u8; 21]) -> usize {
     two_bytes(header[17], header[18]) as usize
 }
 
 // How many bytes of data follow a job's header.
-pub fn byte_count(header: &[u8; 21]) -> usize {
+pub(crate) fn byte_count(header: &[u8; 21]) -> usize {
     two_bytes(header[19], header[20]) as usize
 }
 

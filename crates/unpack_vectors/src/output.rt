@@ -5,7 +5,7 @@ use vector_io::end_line;
 use vector_io::print_named;
 
 // Writes the line of a job and its answer.
-pub fn print_answer(p: Parameters, bytes: usize, answer: Answer) {
+pub(crate) fn print_answer(p: Parameters, bytes: usize, answer: Answer) {
     print_named(b"", p.width as u64);
     print_named(b"x", p.height as u64);
     print_named(b" depth ", p.depth as u64);
