@@ -28,8 +28,7 @@ use Rattle.unpack.specs.Reading.{Run, goesOn, stops, going, onNumber}
 use Rattle.unpack.specs.Prediction.{prediction}
 use Rattle.unpack.specs.Subband.{bytesOf, goesOnAt, checkedData, subbandFrom, subbandOf, predictedSubband, subband}
 use Rattle.unpack.specs.declared.codeblocks.Codeblocks.{Codeblocks}
-use Rattle.unpack.proofs.Runs.{walk-keeps}
-use Rattle.unpack.proofs.PredictionLaws.{predicted-row-stays}
+use Rattle.unpack.proofs.PredictionLaws.{prediction-stays}
 use Rattle.unpack.specs.Bounds.{after, Checked, Placed, codeblocksOf}
 use Rattle.unpack.specs.declared.progress.Progress.the-variants.{At, Refused}
 use Rattle.unpack.proofs.ValueLaws.{number-refused}
@@ -54,6 +53,13 @@ codeblocks-placed p checked k below plane long =
       inside =
           omega (arith, mul-le-mul-right (paddedSize (p .depth) (p .width)) (inside .1), mul-comm (paddedSize (p .depth) (p .height)) (paddedSize (p .depth) (p .width)), long);
     }
+
+-- so does the band that is predicted, at the top left of it
+pub predicted-inside : (c : Codeblocks) (plane : List ℤ) → Placed c plane →
+    (c .subband .width ≤ c .stride) × (c .stride ≤ 4096) × (c .subband .height ≤ 4096) × (c .subband .height * c .stride ≤ length plane)
+predicted-inside c plane placed =
+    let lower : c .subband .height ≤ c .subband .top + c .subband .height = omega arith in
+    (omega (arith, placed .wide), placed .narrow, omega (arith, placed .tall), omega (arith, mul-le-mul-right (c .stride) lower, placed .inside))
 
 -- a header's number, with the largest end that the code can name, is the number up to the bytes' own end
 present-open : (bytes : List ℕ) (end k : ℕ) → k < end → present bytes end k ≡ present bytes (8 * length bytes) k
@@ -108,21 +114,17 @@ pub boundary : (bytes : List ℕ) (start bits : ℕ) → start ≤ length bytes 
 unfolding bytesOf
 boundary bytes start bits inside within = omega (arith, length-drop start bytes)
 
--- so does the band that is predicted, at the top left of it
-pub predicted-inside : (c : Codeblocks) (plane : List ℤ) → Placed c plane →
-    (c .subband .width ≤ c .stride) × (c .stride ≤ 4096) × (c .subband .height ≤ 4096) × (c .subband .height * c .stride ≤ length plane)
-predicted-inside c plane placed =
-    let lower : c .subband .height ≤ c .subband .top + c .subband .height = omega arith in
-    (omega (arith, placed .wide), placed .narrow, omega (arith, placed .tall), omega (arith, mul-le-mul-right (c .stride) lower, placed .inside))
-
 -- a subband after its data: refused, not predicted, or predicted
 module _ (p : Parameters) (bytes : List ℕ) (start : ℕ) (plane : List ℤ) where
+  abbrev predict : Run → Run
+  predict = prediction (paddedSize (p .depth) (p .width)) (subbandOf p 0 .width) (subbandOf p 0 .height)
+
   pub stopped-stays : (k status : ℕ) (last : List ℤ) → stops status last ≡ subbandFrom p bytes k start plane → stops status last ≡ subband p bytes k (goesOn start plane)
-  unfolding subband predictedSubband going prediction
+  unfolding subband predictedSubband going
   stopped-stays zero status last e = rw (← e) (by (p .intra))
     where
-      by : (intra : Bool) → stops status last ≡ cond intra (prediction (paddedSize (p .depth) (p .width)) (subbandOf p 0 .width) (subbandOf p 0 .height) (stops status last)) (stops status last)
-      by true = sym (walk-keeps _ (predicted-row-stays (paddedSize (p .depth) (p .width)) (subbandOf p 0 .width)) (subbandOf p 0 .height) status last)
+      by : (intra : Bool) → stops status last ≡ cond intra (predict (stops status last)) (stops status last)
+      by true = sym (prediction-stays (paddedSize (p .depth) (p .width)) (subbandOf p 0 .width) (subbandOf p 0 .height) status last)
       by false = refl
   stopped-stays (suc k) status last e = e
 
@@ -133,14 +135,13 @@ module _ (p : Parameters) (bytes : List ℕ) (start : ℕ) (plane : List ℤ) wh
 
   pub not-intra : (k : ℕ) (r : Run) → p .intra ≡ false → r ≡ subbandFrom p bytes k start plane → r ≡ subband p bytes k (goesOn start plane)
   unfolding subband predictedSubband going
-  not-intra zero r inter e = e ∙ sym (ap (λ (t : Bool). cond t (prediction (paddedSize (p .depth) (p .width)) (subbandOf p 0 .width) (subbandOf p 0 .height) (subbandFrom p bytes 0 start plane)) (subbandFrom p bytes 0 start plane)) inter)
+  not-intra zero r inter e = e ∙ sym (ap (λ (t : Bool). cond t (predict (subbandFrom p bytes 0 start plane)) (subbandFrom p bytes 0 start plane)) inter)
   not-intra (suc k) r inter e = e
 
   pub first-intra : (k : ℕ) (r : Run) → k ≡ 0 → p .intra ≡ true → r ≡ subbandFrom p bytes k start plane →
       prediction (paddedSize (p .depth) (p .width)) (subbandOf p k .width) (subbandOf p k .height) r ≡ subband p bytes k (goesOn start plane)
   unfolding subband predictedSubband going
   first-intra zero r none intra e =
-      let predict = prediction (paddedSize (p .depth) (p .width)) (subbandOf p 0 .width) (subbandOf p 0 .height) in
       ap predict e ∙ sym (ap (λ (t : Bool). cond t (predict (subbandFrom p bytes 0 start plane)) (subbandFrom p bytes 0 start plane)) intra)
   first-intra (suc k) r none intra e = absurd (by none)
     where

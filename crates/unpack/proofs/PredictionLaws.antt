@@ -14,7 +14,7 @@ use Rattle.base.specs.Floor.{floorDiv}
 use Rattle.base.specs.Range.{fits32}
 use Rattle.base.proofs.Magnitudes.{mag-size, size-mag, size-add, size-floor}
 use Rattle.unpack.specs.Reading.{goesOn, stops, going, store}
-use Rattle.unpack.specs.Prediction.{meanOf, predictor, predicted, predictedRow}
+use Rattle.unpack.specs.Prediction.{meanOf, predictor, predicted, predictedRow, prediction}
 use Rattle.unpack.proofs.Runs.{Stays, walk-keeps}
 
 -- the sums of three values of a plane fit 64 bits, and their mean is small
@@ -104,3 +104,7 @@ predicted-stays stride y x status plane = refl
 pub predicted-row-stays : (stride width y : ℕ) → Stays (predictedRow stride width y)
 unfolding predictedRow
 predicted-row-stays stride width y = walk-keeps (predicted stride y) (predicted-stays stride y) width
+
+pub prediction-stays : (stride width height : ℕ) → Stays (prediction stride width height)
+unfolding prediction
+prediction-stays stride width height = walk-keeps (predictedRow stride width) (predicted-row-stays stride width) height

@@ -21,13 +21,12 @@ use Rattle.exp_golomb.specs.declared.codes.Number.the-variants.{Read, Missing, 
 use Rattle.exp_golomb.proofs.Extent.{unsigned-reach}
 use Rattle.exp_golomb.proofs.Followed.{number-followed}
 use Rattle.unpack.specs.Reading.{Run, goesOn, going, onNumber}
-use Rattle.unpack.specs.Prediction.{predictedRow, prediction}
+use Rattle.unpack.specs.Prediction.{prediction}
 use Rattle.unpack.specs.Subband.{bytesOf, goesOnAt, subbandData, checkedData, subbandFrom, subbandOf, predictedSubband, subband}
 use Rattle.unpack.specs.Job.{Unpacked, endedWith, subbandsFrom, unpacked}
 use Rattle.unpack.specs.declared.progress.Progress.{Progress}
 use Rattle.unpack.specs.declared.progress.Progress.the-variants.{At, Refused}
-use Rattle.unpack.proofs.Runs.{Stays, walk-keeps}
-use Rattle.unpack.proofs.PredictionLaws.{predicted-row-stays}
+use Rattle.unpack.proofs.PredictionLaws.{prediction-stays}
 use Rattle.unpack.proofs.HeaderLaws.{no-data, header-read}
 use Rattle.unpack.proofs.JobLaws.{job-read}
 use Rattle.unpack.proofs.Within.{Sound, Between, prediction-sound, subband-sound, used-between, accepted-read, used-at-most}
@@ -60,12 +59,7 @@ data-passed n next r upto = by (r .progress) upto
     by (At place) h = h
     by (Refused status) h = absurd h
 
--- prediction leaves a refused run as it is
-prediction-stays : (stride width height : ℕ) → Stays (prediction stride width height)
-unfolding prediction
-prediction-stays stride width height = walk-keeps (predictedRow stride width) (predicted-row-stays stride width) height
-
--- so one that went on after prediction went on before it
+-- a run that went on after prediction went on before it, since prediction leaves a refused run as it is
 prediction-passed : (n stride width height : ℕ) (progress : Progress) (plane : List ℤ) →
     Upto n (prediction stride width height (record { progress = progress; plane = plane }) .progress) → Upto n progress
 prediction-passed n stride width height (At place) plane upto =
