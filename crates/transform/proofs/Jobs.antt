@@ -7,12 +7,14 @@ use lib.Dec.{eqb}
 use mathlib.Core.List.{List}
 use Prim.Native.Nat.{ℕ, _+_, _*_}
 use native.Mathlib.Nat.{mul-comm}
+use native.Mathlib.Decide.{ℕ-discrete}
 use native.Mathlib.Omega.{arith}
 use lib.Arith.{digits-lt}
 use lib.IntN.{ℤ, pos}
 use lib.ListN.{length, getD}
 use borrow.Author.Tests.{eq-eqb, ne-eqb, eqb-true}
 use Rattle.base.specs.Every.{allBelow}
+use Rattle.base.specs.Fill.{zerosLike}
 use Rattle.base.specs.Range.{fits32}
 use Rattle.base.proofs.Everys.{and-left, and-right, and-true, all-at}
 use Rattle.component.specs.Sizes.{sizeAt}
@@ -26,7 +28,7 @@ use Rattle.lifting.specs.Filters.{filterOf}
 use Rattle.lifting.specs.Passes.{Picture}
 use Rattle.transform.specs.Analysis.{analysis}
 use Rattle.lifting.specs.Planes.{pictureOf, raster}
-use Rattle.transform.specs.Job.{paddedWidth, paddedHeight, lowWidth, lowHeight, pictureFrom, badLevel, lengthsOf, analysed, analysisStaysIn32, unchanged, overflowed, accepted, transformed, synthesised}
+use Rattle.transform.specs.Job.{Synthesised, paddedWidth, paddedHeight, lowWidth, lowHeight, pictureFrom, badLevel, lengthsOf, analysed, analysisStaysIn32, unchanged, overflowed, accepted, transformed, synthesised}
 use Rattle.lifting.specs.Layout.{Agree}
 use Rattle.lifting.proofs.PassLaws.{AllFit}
 use Rattle.transform.proofs.LevelLaws.{synthesis-back, synthesis-fits}
@@ -136,3 +138,13 @@ module _ (p : Parameters) (coefficients work samples : List ℤ) where
   pub job-accepted : status ≡ 0 → badLevel p coefficients ≡ 0 → synthesised p coefficients work samples ≡ accepted p coefficients work
   unfolding synthesised transformed
   job-accepted none fine = rw (eq-eqb status 0 none, eq-eqb (badLevel p coefficients) 0 fine)
+
+  -- a refusal that no check gave leaves zeros
+  pub refused-zeros : status ≡ 0 → synthesised p coefficients work samples .status ≢ 0 →
+      (synthesised p coefficients work samples .work ≡ zerosLike work) × (synthesised p coefficients work samples .samples ≡ zerosLike samples)
+  unfolding overflowed accepted
+  refused-zeros none some =
+      elim (ℕ-discrete (badLevel p coefficients) 0) [
+        | yes fine ↦ absurd (some (ap (λ (s : Synthesised). s .status) (job-accepted none fine)))
+        | no bad ↦ rw (job-overflowed none bad) (refl, refl)
+      ]

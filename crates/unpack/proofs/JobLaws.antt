@@ -1,15 +1,16 @@
 -- Laws of the job: what passed checks give, the subbands one by one, and the ways that it ends.
 -- Assumes nothing.
-use mathlib.Core.Path.{_≡_, refl, subst}
+use mathlib.Core.Path.{_≡_, refl, sym, subst}
 use mathlib.Core.List.{List}
 use mathlib.Core.Logic.{_≢_}
 use Prim.Native.Nat.{ℕ, zero, suc, _+_}
 use native.Mathlib.Omega.{arith}
 use lib.IntN.{ℤ}
-use lib.ListN.{length}
+use lib.ListN.{length, length-replicate}
 use borrow.Author.Tests.{eq-eqb, ne-eqb, eqb-true, not-false}
 use Rattle.base.specs.Fill.{zerosLike}
 use Rattle.base.proofs.Everys.{and-left}
+use Rattle.base.proofs.Fills.{zeros-length}
 use Rattle.component.specs.Checks.{areaOf, planesFit, refusalOf}
 use Rattle.component.specs.Subbands.{subbandCount}
 use Rattle.component.specs.declared.parameters.Parameters.{Parameters}
@@ -19,6 +20,8 @@ use Rattle.unpack.specs.Reading.{Run, goesOn, stops}
 use Rattle.unpack.specs.Subband.{subband}
 use Rattle.unpack.specs.Job.{Unpacked, endedWith, subbandsFrom, unpacked}
 use Rattle.unpack.specs.Bounds.{Checked}
+use Rattle.unpack.specs.declared.progress.Progress.{Progress}
+use Rattle.unpack.specs.declared.progress.Progress.the-variants.{At, Refused}
 
 module _ (p : Parameters) (bytes : List ℕ) (k start : ℕ) (plane : List ℤ) where
   -- after the last
@@ -43,6 +46,21 @@ module _ (p : Parameters) (bytes : List ℕ) (k start : ℕ) (plane : List ℤ) 
     unfolding subbandsFrom endedWith
     subbands-stop status last e = subst (λ (r : Run). endsWith r ≡ record { status = status; place = k; coefficients = zerosLike last }) e refl
 
+-- An outcome that is no refusal, or leaves zeros.
+abbrev pub ZeroedIfRefused : Unpacked → Type 0
+ZeroedIfRefused u = u .status ≢ 0 → u .coefficients ≡ zerosLike (u .coefficients)
+
+ended-zeroed : (k : ℕ) (progress : Progress) (plane : List ℤ) (go : ℕ → List ℤ → Unpacked) →
+    ((next : ℕ) (after : List ℤ) → ZeroedIfRefused (go next after)) → ZeroedIfRefused (endedWith k progress plane go)
+unfolding endedWith zerosLike
+ended-zeroed k (At next) plane go later some = later next plane some
+ended-zeroed k (Refused status) plane go later some = sym (zeros-length (zerosLike plane) plane (length-replicate _ _))
+
+subbands-zeroed : (p : Parameters) (bytes : List ℕ) (n k start : ℕ) (plane : List ℤ) → ZeroedIfRefused (subbandsFrom p bytes n k start plane)
+unfolding subbandsFrom
+subbands-zeroed p bytes zero k start plane some = absurd (some refl)
+subbands-zeroed p bytes (suc n) k start plane some = ended-zeroed k _ _ (subbandsFrom p bytes n (suc k)) (subbands-zeroed p bytes n (suc k)) some
+
 -- What the checks say of a plane.
 abbrev pub status : Parameters → List ℤ → ℕ
 status p plane = refusalOf Unpack p (record { coefficients = length plane; work = 0; samples = 0 })
@@ -56,6 +74,10 @@ module _ (p : Parameters) (bytes : List ℕ) (plane : List ℤ) where
   pub job-read : status p plane ≡ 0 → unpacked p bytes plane ≡ subbandsFrom p bytes (subbandCount (p .depth)) 0 0 (zerosLike plane)
   unfolding unpacked
   job-read none = rw (eq-eqb (status p plane) 0 none)
+
+  -- a refusal that no check gave leaves zeros
+  pub refused-zeros : status p plane ≡ 0 → ZeroedIfRefused (unpacked p bytes plane)
+  refused-zeros none = rw (job-read none) (subbands-zeroed p bytes (subbandCount (p .depth)) 0 0 (zerosLike plane))
 
 -- where no check refused, the parameters and the plane are as the readers need them
 module _ (p : Parameters) (plane : List ℤ) (none : status p plane ≡ 0) where

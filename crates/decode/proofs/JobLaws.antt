@@ -1,0 +1,72 @@
+-- The ways that decode ends: refused by a check, by the bytes or by synthesis, and accepted.
+-- Assumes nothing.
+use mathlib.Core.Path.{_≡_, refl, sym, subst, ap, _∙_}
+use mathlib.Core.Logic.{_≢_}
+use mathlib.Core.Bool.{true, not}
+use mathlib.Core.List.{List}
+use Prim.Native.Nat.{ℕ, _*_}
+use lib.IntN.{ℤ}
+use lib.ListN.{length}
+use lib.Dec.{eqb}
+use borrow.Author.Tests.{eq-eqb, ne-eqb}
+use Rattle.base.specs.Fill.{zerosLike}
+use Rattle.base.proofs.Everys.{and-left, and-true}
+use Rattle.base.proofs.Fills.{zeros-length}
+use Rattle.component.specs.Checks.{areaOf, planesFit, refusalOf}
+use Rattle.component.specs.declared.parameters.Parameters.{Parameters}
+use Rattle.component.specs.declared.parameters.Answer.{Answer}
+use Rattle.component.specs.declared.parameters.Job.the-variants.{Unpack, Synthesise, Decode}
+use Rattle.component.proofs.CheckLaws.{passed, refused-none}
+use Rattle.unpack.specs.Job.{Unpacked, unpacked, outcome as unpackOutcome}
+use Rattle.unpack.proofs.JobLaws.{refused-zeros}
+use Rattle.transform.specs.Job.{Synthesised, lengthsOf, synthesised, outcome as synthesisOutcome}
+use Rattle.transform.proofs.Jobs.{refused-zeros as synthesis-zeros}
+use Rattle.decode.specs.Job.{Decoded, outcome, unchanged, zeroed, accepted, unpackedAndSynthesised, decoded}
+
+module _ (p : Parameters) (bytes : List ℕ) (coefficients work samples : List ℤ) where
+  abbrev status : ℕ
+  status = refusalOf Decode p (lengthsOf coefficients work samples)
+
+  pub refused-by-check : status ≢ 0 → unchanged status coefficients work samples ≡ decoded p bytes coefficients work samples
+  unfolding decoded
+  refused-by-check some = rw (ne-eqb status 0 some)
+
+  -- no check refuses
+  module _ (none : status ≡ 0) where
+    -- then neither job's checks do
+    unpack-passes : refusalOf Unpack p (record { coefficients = length coefficients; work = 0; samples = 0 }) ≡ 0
+    unfolding planesFit
+    unpack-passes =
+        let all = passed Decode p _ none in
+        sym (refused-none Unpack p _ (all .sizes-pass) (all .depth-passes) refl (all .codeblocks-pass) (and-true _ true (and-left (eqb (length coefficients) (areaOf p)) _ (all .planes-pass)) refl))
+
+    synthesise-passes : (after : List ℤ) → length after ≡ length coefficients → refusalOf Synthesise p (lengthsOf after work samples) ≡ 0
+    unfolding planesFit
+    synthesise-passes after same =
+        let all = passed Decode p _ none in
+        sym (refused-none Synthesise p _ (all .sizes-pass) (all .depth-passes) (all .wavelet-passes) refl (rw same (all .planes-pass)))
+
+    -- what unpack answered and left in the coefficients
+    module _ (u : Answer) (after : List ℤ) (told : unpackOutcome u after ≡ unpacked p bytes coefficients) (same : length after ≡ length coefficients) where
+      decoded-from : decoded p bytes coefficients work samples ≡ unpackedAndSynthesised (unpackOutcome u after) (synthesised p after work samples) coefficients work samples
+      unfolding decoded unpackOutcome
+      decoded-from = rw (eq-eqb status 0 none, ← told) refl
+
+      pub refused-by-bytes : u .status ≢ 0 → outcome u after (zerosLike work) (zerosLike samples) ≡ decoded p bytes coefficients work samples
+      unfolding unpackedAndSynthesised outcome unpackOutcome zeroed
+      refused-by-bytes some =
+          let zeros : after ≡ zerosLike after = subst (λ (t : Unpacked). t .status ≢ 0 → t .coefficients ≡ zerosLike (t .coefficients)) (sym told) (refused-zeros p bytes coefficients unpack-passes) some in
+          rw (decoded-from, ne-eqb (u .status) 0 some) (ap (λ (l : List ℤ). outcome u l (zerosLike work) (zerosLike samples)) (zeros ∙ zeros-length after coefficients same))
+
+      -- what synthesise answered and left in work and samples
+      module _ (fine : u .status ≡ 0) (s : Answer) (w v : List ℤ) (made : synthesisOutcome s w v ≡ synthesised p after work samples) where
+        pub refused-by-synthesis : s .status ≢ 0 → outcome s (zerosLike after) w v ≡ decoded p bytes coefficients work samples
+        unfolding unpackedAndSynthesised outcome unpackOutcome synthesisOutcome zeroed
+        refused-by-synthesis some =
+            let zeros : (w ≡ zerosLike work) × (v ≡ zerosLike samples) =
+            subst (λ (t : Synthesised). t .status ≢ 0 → (t .work ≡ zerosLike work) × (t .samples ≡ zerosLike samples)) (sym made) (synthesis-zeros p after work samples (synthesise-passes after same)) some in
+            rw (decoded-from, fine, ← made, ne-eqb (s .status) 0 some, zeros .0, zeros .1, zeros-length after coefficients same) refl
+
+        pub job-accepted : s .status ≡ 0 → outcome u after w v ≡ decoded p bytes coefficients work samples
+        unfolding unpackedAndSynthesised outcome unpackOutcome synthesisOutcome accepted
+        job-accepted good = rw (decoded-from, fine, ← made, good) refl
