@@ -82,7 +82,7 @@ fn transforms(job: Job) -> bool
 }
 
 // Whether width and height are in range.
-fn sizes_in_range(p: Parameters) -> bool
+pub fn sizes_in_range(p: Parameters) -> bool
     ensures { λ r. ⌜ r ≡ sizesInRange p ⌝ }
 {
     in_range(1, 4096, p.width) && in_range(1, 4096, p.height)

@@ -5,6 +5,7 @@ use mathlib.Core.Logic.{_≢_}
 use mathlib.Core.Bool.{true, not}
 use mathlib.Core.List.{List}
 use Prim.Native.Nat.{ℕ, _*_}
+use native.Mathlib.Decide.{ℕ-discrete}
 use lib.IntN.{ℤ}
 use lib.ListN.{length}
 use lib.Dec.{eqb}
@@ -30,6 +31,15 @@ module _ (p : Parameters) (bytes : List ℕ) (coefficients work samples : List �
   pub refused-by-check : status ≢ 0 → unchanged status coefficients work samples ≡ decoded p bytes coefficients work samples
   unfolding decoded
   refused-by-check some = rw (ne-eqb status 0 some)
+
+  -- what is accepted has passed the checks
+  pub accepted-checked : decoded p bytes coefficients work samples .status ≡ 0 → status ≡ 0
+  unfolding unchanged
+  accepted-checked fine =
+      elim (ℕ-discrete status 0) [
+        | yes none ↦ none
+        | no some ↦ ap (λ (d : Decoded). d .status) (refused-by-check some) ∙ fine
+      ]
 
   -- no check refuses
   module _ (none : status ≡ 0) where

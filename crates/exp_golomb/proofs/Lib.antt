@@ -1,6 +1,5 @@
 -- The laws of bits and codes, for this crate and those above it.
 pub mod BitLaws
 pub mod CodeLaws
-pub mod WorkedExamples
 pub mod Extent
 pub mod Followed

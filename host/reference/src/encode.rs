@@ -65,15 +65,24 @@ pub fn encode_body<T: Copy + Into<i64>>(
     quantised: &[T],
     options: &EncodeOptions,
 ) -> Vec<u8> {
+    encode_subbands(p, quantised, options).concat()
+}
+
+/// The bytes of each subband of that body, in stream order.
+pub fn encode_subbands<T: Copy + Into<i64>>(
+    p: &Parameters,
+    quantised: &[T],
+    options: &EncodeOptions,
+) -> Vec<Vec<u8>> {
     let numbers: Vec<i64> = quantised.iter().map(|&number| number.into()).collect();
     let bands = subbands(p);
     assert_eq!(numbers.len(), padded_area(p));
     assert_eq!(options.subbands.len(), bands.len());
-    let mut body = Vec::new();
-    for (band, options) in bands.iter().zip(&options.subbands) {
-        body.extend(encode_subband(p, band, &numbers, options));
-    }
-    body
+    bands
+        .iter()
+        .zip(&options.subbands)
+        .map(|(band, options)| encode_subband(p, band, &numbers, options))
+        .collect()
 }
 
 /// The bytes of one subband (document 01, "One subband").

@@ -6,18 +6,24 @@
 //! The three jobs are [`unpack()`], [`synthesise`] and [`decode`]; [`analyse`] is the forward
 //! transform; [`mod@encode`] makes bodies for tests; [`recording`] reads and writes recordings;
 //! [`jobs`] is the command's plain text job format; [`vectors`] and [`mod@unpack_vectors`] make stored
-//! vectors for synthesise and unpack, with the generator [`random`].
+//! vectors for synthesise and unpack, [`recording_vectors`] and [`samples`] stored recordings, with the
+//! generator [`random`] and the [`pieces`] they share.
 
 pub mod codes;
 pub mod encode;
 pub mod jobs;
 pub mod params;
+pub mod pieces;
 pub mod random;
 pub mod recording;
+pub mod recording_vectors;
+pub mod refused_recordings;
+pub mod samples;
 pub mod transform;
 pub mod unpack;
 pub mod unpack_vectors;
 pub mod vectors;
+pub mod wrong_tables;
 
 pub use encode::{encode_body, quantise, quantise_plane, EncodeOptions, Rounding, SubbandOptions};
 pub use params::{Answer, Parameters};

@@ -1,10 +1,14 @@
-//! The command: decodes a recording, answers the jobs of a text file, or writes stored vectors.
+//! The command: decodes a recording, answers the jobs of a text file, or writes stored vectors and
+//! recordings.
 
+use reference::recording_vectors::{recordings, Recording};
+use reference::samples::samples;
 use reference::vectors::Vectors;
 use std::io::Write;
+use std::path::Path;
 use std::process::ExitCode;
 
-const USAGE: &str = "usage: reference COMMAND FILE..
+const USAGE: &str = "usage: reference COMMAND PATH..
 
   reference decode FILE    print what a recording decodes to
   reference jobs FILE      answer the unpack, synthesise and decode jobs of a text file
@@ -13,6 +17,8 @@ const USAGE: &str = "usage: reference COMMAND FILE..
                            write the input of crates/synthesis_vectors and the output it owes
   reference unpack-vectors STDIN_FILE STDOUT_FILE
                            the same for crates/unpack_vectors
+  reference recordings DIR write vectors/recordings: recordings and what they decode to
+  reference samples DIR    the same for samples
 
 A job file has one job a line; # starts a comment:
 
@@ -48,6 +54,8 @@ fn main() -> ExitCode {
         ["unpack-vectors", stdin, stdout] => {
             write_vectors(&reference::unpack_vectors::unpack_vectors(), stdin, stdout)
         }
+        ["recordings", folder] => write_recordings(&recordings(), folder),
+        ["samples", folder] => write_recordings(&samples(), folder),
         _ => {
             eprint!("{USAGE}");
             return ExitCode::from(2);
@@ -81,11 +89,24 @@ fn run(file: &str, jobs: fn(&str) -> Result<String, String>) -> Result<String, S
 
 /// Writes the stored vectors' input and output, and prints nothing; or why a file cannot be written.
 fn write_vectors(vectors: &Vectors, stdin: &str, stdout: &str) -> Result<String, String> {
-    for (file, bytes) in [
-        (stdin, &vectors.input[..]),
-        (stdout, vectors.output.as_bytes()),
-    ] {
-        std::fs::write(file, bytes).map_err(|error| format!("{file}: {error}"))?;
+    write(stdin.as_ref(), &vectors.input)?;
+    write(stdout.as_ref(), vectors.output.as_bytes())?;
+    Ok(String::new())
+}
+
+/// Writes each recording and its text into a folder, which is made where it is missing, and prints
+/// nothing; or why a file cannot be written.
+fn write_recordings(recordings: &[Recording], folder: &str) -> Result<String, String> {
+    std::fs::create_dir_all(folder).map_err(|error| format!("{folder}: {error}"))?;
+    for recording in recordings {
+        let file = |ending| Path::new(folder).join(format!("{}.{ending}", recording.name));
+        write(&file("rec"), &recording.file)?;
+        write(&file("txt"), recording.text().as_bytes())?;
     }
     Ok(String::new())
+}
+
+/// Writes a file, or why it cannot be written.
+fn write(file: &Path, bytes: &[u8]) -> Result<(), String> {
+    std::fs::write(file, bytes).map_err(|error| format!("{}: {error}", file.display()))
 }

@@ -15,10 +15,13 @@
 //! The bytes come from [`mod@crate::encode`], a seeded generator, or single bits, and every answer and
 //! plane from [`crate::unpack()`], so the vectors are the same in every run.
 
-use crate::codes::BitWriter;
 use crate::encode::{encode_body, EncodeOptions, SubbandOptions};
 use crate::jobs::INITIAL_ENTRY;
 use crate::params::{padded_area, subbands, Answer, Parameters};
+use crate::pieces::{
+    bits, joined, numbers, random_body, signed_numbers, sparse_body, subband_bytes,
+    with_codeblocks, with_random_codeblocks, EARLY_ENDS_OF_ONE, EARLY_ENDS_OF_TWO, LARGEST_NUMBER,
+};
 use crate::random::Random;
 use crate::unpack;
 use crate::vectors::Vectors;
@@ -109,26 +112,9 @@ fn job_text(job: &Job) -> String {
     )
 }
 
-/// Parameters with one codeblock at every level.
+/// Parameters with one codeblock at every level; unpack doesn't look at the wavelet.
 fn parameters(width: u32, height: u32, depth: u32, intra: bool) -> Parameters {
-    Parameters {
-        width,
-        height,
-        depth,
-        wavelet: 0,
-        intra,
-        codeblocks_across: [1; 5],
-        codeblocks_down: [1; 5],
-    }
-}
-
-/// The same parameters with these codeblock counts at every level.
-fn with_codeblocks(p: &Parameters, across: u32, down: u32) -> Parameters {
-    Parameters {
-        codeblocks_across: [across; 5],
-        codeblocks_down: [down; 5],
-        ..p.clone()
-    }
+    crate::pieces::parameters(width, height, depth, 0, intra)
 }
 
 /// A job whose plane has the length it needs.
@@ -138,46 +124,6 @@ fn job(p: &Parameters, bytes: Vec<u8>) -> Job {
         plane_length: padded_area(p),
         bytes,
     }
-}
-
-/// The bytes of a text of 0s and 1s, spaces passed over, the last byte filled up with 0s.
-fn bits(text: &str) -> Vec<u8> {
-    let mut writer = BitWriter::new();
-    for digit in text.chars().filter(|digit| *digit != ' ') {
-        writer.bit(digit == '1');
-    }
-    writer.to_bytes(false)
-}
-
-/// The bytes of numbers' codes, one after the other, the last byte filled up with 0s.
-fn numbers(list: &[u64]) -> Vec<u8> {
-    let mut writer = BitWriter::new();
-    for &number in list {
-        writer.number(number);
-    }
-    writer.to_bytes(false)
-}
-
-/// The bytes of signed numbers' codes, one after the other, the last byte filled up with 0s.
-fn signed_numbers(list: &[i64]) -> Vec<u8> {
-    let mut writer = BitWriter::new();
-    for &number in list {
-        writer.signed_number(number);
-    }
-    writer.to_bytes(false)
-}
-
-/// One subband's bytes: a header for this data and index, then the data.
-fn subband_bytes(index: u64, data: &[u8]) -> Vec<u8> {
-    let mut bytes = numbers(&[data.len() as u64, index]);
-    bytes.extend(data);
-    bytes
-}
-
-/// Bytes, then others.
-fn joined(mut first: Vec<u8>, then: &[u8]) -> Vec<u8> {
-    first.extend(then);
-    first
 }
 
 /// Refusals 1, 2, 4 and 5, alone and together; a count above the depth and a wavelet don't matter.
@@ -242,7 +188,6 @@ fn headers_at() -> Vec<(Parameters, usize)> {
 /// A header starts on a byte boundary and a number's code has an odd number of bits, so bytes can only
 /// end inside a length before the bit that may end it, and inside an index before a data bit.
 fn header_jobs(random: &mut Random, p: &Parameters, number: usize) -> Vec<Job> {
-    let longest = (1 << 32) - 2;
     let behind = vec![0x80; subbands(p).len() - number];
     let mut jobs = Vec::new();
     for header in [
@@ -255,8 +200,8 @@ fn header_jobs(random: &mut Random, p: &Parameters, number: usize) -> Vec<Job> {
         // A length of 31 data bits, and of more.
         joined(vec![0x00; 7], &bits("000000 1 1")),
         joined(vec![0x00; 7], &bits("000000 0 1")),
-        numbers(&[longest, 0]),
-        numbers(&[longest + 1, 0]),
+        numbers(&[LARGEST_NUMBER, 0]),
+        numbers(&[LARGEST_NUMBER + 1, 0]),
         numbers(&[(1 << 40) - 1, 0]),
         // An index that ends early, after 0, 2, 4 and 6 data bits.
         bits("0001001 0"),
@@ -264,8 +209,8 @@ fn header_jobs(random: &mut Random, p: &Parameters, number: usize) -> Vec<Job> {
         bits("001 01 00 00 01 01 01 0"),
         bits("0101011 00 00 00 00 0"),
         // An index of 31 data bits, and of more.
-        numbers(&[1, longest]),
-        numbers(&[1, longest + 1]),
+        numbers(&[1, LARGEST_NUMBER]),
+        numbers(&[1, LARGEST_NUMBER + 1]),
         // An index in range, and above it.
         numbers(&[1, 115]),
         numbers(&[1, 116]),
@@ -277,9 +222,9 @@ fn header_jobs(random: &mut Random, p: &Parameters, number: usize) -> Vec<Job> {
         numbers(&[1000, 116]),
         numbers(&[(1 << 31) - 1, 7]),
         numbers(&[1 << 31, 7]),
-        numbers(&[longest, 115]),
-        numbers(&[longest, 116]),
-        numbers(&[longest + 1, 116]),
+        numbers(&[LARGEST_NUMBER, 115]),
+        numbers(&[LARGEST_NUMBER, 116]),
+        numbers(&[LARGEST_NUMBER + 1, 116]),
         // A length of 0, with other bits before the boundary.
         bits("1 0000000"),
         bits("1 1111111"),
@@ -456,34 +401,13 @@ fn prediction_jobs() -> Vec<Job> {
 fn early_end_jobs() -> Vec<Job> {
     let one = parameters(5, 2, 0, false);
     let two = with_codeblocks(&one, 2, 1);
-    let texts = [
-        // One codeblock: it ends before a number, before a sign, before a data bit, and before the bit
-        // that may end a number.
-        "0010 0011",
-        "11111 001",
-        "1 00 00 00 1",
-        "1111111 0",
-        "1 00 01 01 0",
-        "01010101",
-        "00 00 01 00",
-        "00000000 00000000",
-        "0010 0010 0010 00 00",
-        // Two codeblocks: the same, and before the second flag, where the first codeblock has a flag or
-        // not.
-        "0 0010 011",
-        "0 1111 001",
-        "0 00 00 00 1",
-        "0 1111 0 1 0",
-        "0 1111 0 00",
-        "0 1 0010 1 1",
-        "0 1111 1 11",
-        "1 0 0010 1 0",
-        "1 0 111111 0010 1010",
-        // More than is needed.
-        "1111111111 000000 0000000000000000",
-    ];
+    let more_than_needed = ["1111111111 000000 0000000000000000"];
     let mut jobs = Vec::new();
-    for text in texts {
+    for text in EARLY_ENDS_OF_ONE
+        .iter()
+        .chain(&EARLY_ENDS_OF_TWO)
+        .chain(&more_than_needed)
+    {
         for p in [&one, &two] {
             let bytes = subband_bytes(0, &bits(text));
             jobs.push(job(p, bytes.clone()));
@@ -509,7 +433,7 @@ fn codeblock_jobs(random: &mut Random) -> Vec<Job> {
                     flag_zero_codeblocks,
                     ..SubbandOptions::default()
                 };
-                jobs.push(sparse_job(random, &p, options));
+                jobs.push(job(&p, sparse_body(random, &p, options)));
             }
         }
     }
@@ -534,18 +458,10 @@ fn codeblock_jobs(random: &mut Random) -> Vec<Job> {
             ));
         }
         let p = with_codeblocks(&parameters(3, 2, 1, true), across, down);
-        jobs.push(sparse_job(random, &p, SubbandOptions::default()));
+        let body = sparse_body(random, &p, SubbandOptions::default());
+        jobs.push(job(&p, body));
     }
     jobs
-}
-
-/// A job whose numbers are small and half of them 0.
-fn sparse_job(random: &mut Random, p: &Parameters, options: SubbandOptions) -> Job {
-    let plane: Vec<i64> = (0..padded_area(p))
-        .map(|_| random.pick(&[0, 0, 0, 1, -1, 9]))
-        .collect();
-    let options = EncodeOptions::uniform(p, options);
-    job(p, encode_body(p, &plane, &options))
 }
 
 /// Every quantiser index, with the numbers 0, 1, -1, 2, -3 and 100.
@@ -568,9 +484,7 @@ fn random_jobs(random: &mut Random) -> Vec<Job> {
     for depth in 0..=4 {
         for (width, height) in sizes {
             for intra in [false, true] {
-                let mut p = parameters(width, height, depth, intra);
-                p.codeblocks_across = [0; 5].map(|_| random.range(1, 4) as u32);
-                p.codeblocks_down = [0; 5].map(|_| random.range(1, 4) as u32);
+                let p = with_random_codeblocks(random, &parameters(width, height, depth, intra));
                 let spread = 1 << random.range(0, 12);
                 let behind = random.range(0, 3) as usize;
                 let body = random_body(random, &p, spread);
@@ -579,30 +493,6 @@ fn random_jobs(random: &mut Random) -> Vec<Job> {
         }
     }
     jobs
-}
-
-/// A body in order, of numbers up to a magnitude, half of them 0.
-fn random_body(random: &mut Random, p: &Parameters, spread: i64) -> Vec<u8> {
-    let plane: Vec<i64> = (0..padded_area(p))
-        .map(|_| i64::from(random.flag()) * random.range(-spread, spread))
-        .collect();
-    let options = EncodeOptions {
-        subbands: subbands(p).iter().map(|_| random_options(random)).collect(),
-    };
-    encode_body(p, &plane, &options)
-}
-
-/// Some way to write a subband.
-fn random_options(random: &mut Random) -> SubbandOptions {
-    SubbandOptions {
-        quantiser: random.range(0, 40) as u64,
-        skip_if_zero: random.flag(),
-        flag_zero_codeblocks: random.flag(),
-        drop_trailing_ones: random.flag(),
-        slack: vec![0xA5; random.range(0, 2) as usize],
-        fill: random.flag(),
-        stated_length: None,
-    }
 }
 
 /// A component of depth 2 whose bytes end at every place.

@@ -109,15 +109,7 @@ fn job_text(job: &Job) -> String {
 
 /// The parameters that synthesise looks at; the others are as for one codeblock a level.
 fn parameters(width: u32, height: u32, depth: u32, wavelet: u32) -> Parameters {
-    Parameters {
-        width,
-        height,
-        depth,
-        wavelet,
-        intra: false,
-        codeblocks_across: [1; 5],
-        codeblocks_down: [1; 5],
-    }
+    crate::pieces::parameters(width, height, depth, wavelet, false)
 }
 
 /// A job whose coefficients are random numbers of so many bits.
@@ -206,7 +198,7 @@ fn extreme(largest: bool) -> i32 {
 
 /// The last number that fits and the first that doesn't, at both ends: the Haar filter takes LL, HL to
 /// LL - floor((HL + 1) / 2) first.
-fn edge_jobs() -> Vec<Job> {
+pub fn edge_jobs() -> Vec<Job> {
     [
         [i32::MAX, -1, 0, 0],
         [i32::MAX, -2, 0, 0],
@@ -222,7 +214,7 @@ fn edge_jobs() -> Vec<Job> {
 
 /// A job of depth 4 that is refused at a level: small numbers, and one place of the level at which as
 /// few bands as do it, from one up, hold an extreme.
-fn refused_at(random: &mut Random, wavelet: u32, level: u32) -> Job {
+pub fn refused_at(random: &mut Random, wavelet: u32, level: u32) -> Job {
     let p = parameters(9, 13, 4, wavelet);
     let quiet = random_job(random, p, 8);
     let p = &quiet.parameters;
@@ -260,7 +252,7 @@ fn refused_at(random: &mut Random, wavelet: u32, level: u32) -> Job {
 }
 
 /// A job of depth 1 that is refused though every number at the level's end fits.
-fn out_and_back(random: &mut Random, wavelet: u32) -> Job {
+pub fn out_and_back(random: &mut Random, wavelet: u32) -> Job {
     for _ in 0..100_000 {
         let p = parameters(3, 2, 1, wavelet);
         let bits = random.pick(&[31, 32]);
@@ -275,6 +267,12 @@ fn out_and_back(random: &mut Random, wavelet: u32) -> Job {
 /// Whether every number fits after the filters of a job of depth 1, and so after the shift too. This
 /// is a wrong reading of refusal 10, which looks at each lifting step.
 pub fn level_end_fits(job: &Job) -> bool {
+    let picture = filtered_level(job);
+    picture.numbers.iter().all(|&number| fits_32_bits(number))
+}
+
+/// The picture of a job of depth 1 after the filters and before the shift, with whatever numbers.
+pub fn filtered_level(job: &Job) -> Grid {
     let p = &job.parameters;
     let plane = Grid {
         width: padded_width(p),
@@ -286,5 +284,5 @@ pub fn level_end_fits(job: &Job) -> bool {
     let mut picture = interleave(&ll, &hl, &lh, &hh);
     picture.filter_columns(steps);
     picture.filter_rows(steps);
-    picture.numbers.iter().all(|&number| fits_32_bits(number))
+    picture
 }

@@ -1,26 +1,14 @@
 //! Helpers shared by the tests.
 
-use reference::codes::BitWriter;
 use reference::jobs::INITIAL_ENTRY;
 use reference::params::{padded_area, sample_area};
+pub use reference::pieces::{bits, parameters, subband_bytes};
 pub use reference::random::Random;
 use reference::vectors::Vectors;
 use reference::{decode, synthesise, unpack, Answer, Parameters};
+use std::collections::BTreeSet;
 use std::path::{Path, PathBuf};
 use std::process::Command;
-
-/// Parameters with one codeblock at every level.
-pub fn parameters(width: u32, height: u32, depth: u32, wavelet: u32, intra: bool) -> Parameters {
-    Parameters {
-        width,
-        height,
-        depth,
-        wavelet,
-        intra,
-        codeblocks_across: [1; 5],
-        codeblocks_down: [1; 5],
-    }
-}
 
 /// The same parameters with these codeblock counts at one level.
 pub fn with_codeblocks(p: &Parameters, level: usize, across: u32, down: u32) -> Parameters {
@@ -59,30 +47,9 @@ pub fn run_decode(p: &Parameters, bytes: &[u8]) -> (Answer, Vec<i32>, Vec<i32>, 
     (answer, coefficients, work, samples)
 }
 
-/// The bytes of a text of 0s and 1s, spaces passed over, the last byte filled up with 0s.
-pub fn bits(text: &str) -> Vec<u8> {
-    let mut writer = BitWriter::new();
-    for digit in text.chars().filter(|digit| *digit != ' ') {
-        writer.bit(digit == '1');
-    }
-    writer.to_bytes(false)
-}
-
-/// One subband's bytes: a header for this data and index, then the data.
-pub fn subband_bytes(quantiser: u64, data: &[u8]) -> Vec<u8> {
-    let mut header = BitWriter::new();
-    header.number(data.len() as u64);
-    header.number(quantiser);
-    let mut bytes = header.to_bytes(false);
-    bytes.extend(data);
-    bytes
-}
-
 /// The folder of a proved program.
 pub fn program_folder(name: &str) -> PathBuf {
-    Path::new(env!("CARGO_MANIFEST_DIR"))
-        .join("../../crates")
-        .join(name)
+    repository("crates").join(name)
 }
 
 /// Fails unless a file has these bytes.
@@ -108,6 +75,75 @@ pub fn assert_writes_vectors(command: &str, vectors: &Vectors) {
     assert_stored(&stdin, &vectors.input);
     assert_stored(&stdout, vectors.output.as_bytes());
     let output = write(&stdin.join("no folder"), &stdout);
+    assert_eq!(output.status.code(), Some(1));
+    assert!(!output.stderr.is_empty());
+}
+
+/// A recording of a folder and its text.
+pub struct Stored {
+    pub name: String,
+    pub file: Vec<u8>,
+    pub text: String,
+}
+
+/// A path of the repository.
+fn repository(path: &str) -> PathBuf {
+    Path::new(env!("CARGO_MANIFEST_DIR"))
+        .join("../..")
+        .join(path)
+}
+
+/// The names of a folder's files, but for README.md.
+fn file_names(folder: &Path) -> BTreeSet<String> {
+    let mut names: BTreeSet<String> = std::fs::read_dir(folder)
+        .unwrap()
+        .map(|file| file.unwrap().file_name().into_string().unwrap())
+        .collect();
+    names.remove("README.md");
+    names
+}
+
+/// The recordings of a folder of the repository, which has nothing else but their texts.
+pub fn stored_recordings(folder: &str) -> Vec<Stored> {
+    let folder = repository(folder);
+    let names = file_names(&folder);
+    let mut recordings = Vec::new();
+    for name in names.iter().filter_map(|name| name.strip_suffix(".rec")) {
+        recordings.push(Stored {
+            name: name.to_string(),
+            file: std::fs::read(folder.join(format!("{name}.rec"))).unwrap(),
+            text: std::fs::read_to_string(folder.join(format!("{name}.txt"))).unwrap(),
+        });
+    }
+    assert_eq!(names.len(), 2 * recordings.len());
+    recordings
+}
+
+/// Fails unless a command of the reference writes exactly the files of a folder of the repository, and
+/// says where it can't.
+pub fn assert_writes_folder(command: &str, folder: &str) {
+    let write = |folder: &Path| {
+        Command::new(env!("CARGO_BIN_EXE_reference"))
+            .arg(command)
+            .arg(folder)
+            .output()
+            .unwrap()
+    };
+    let written = PathBuf::from(env!("CARGO_TARGET_TMPDIR")).join(format!("{command}.folder"));
+    if written.exists() {
+        std::fs::remove_dir_all(&written).unwrap();
+    }
+    let output = write(&written);
+    assert_eq!(output.status.code(), Some(0));
+    assert!(output.stdout.is_empty() && output.stderr.is_empty());
+    let stored = repository(folder);
+    assert_eq!(file_names(&written), file_names(&stored));
+    for name in file_names(&written) {
+        let bytes = std::fs::read(written.join(&name)).unwrap();
+        assert_stored(&stored.join(&name), &bytes);
+    }
+    // No folder can be made inside a file.
+    let output = write(&stored.join("README.md").join("folder"));
     assert_eq!(output.status.code(), Some(1));
     assert!(!output.stderr.is_empty());
 }

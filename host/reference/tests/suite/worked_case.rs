@@ -10,7 +10,7 @@ use reference::{
 const BODY: [u8; 8] = [0x30, 0x16, 0x30, 0x18, 0x30, 0x70, 0x30, 0x20];
 
 /// The whole file, byte by byte.
-fn file() -> Vec<u8> {
+pub fn file() -> Vec<u8> {
     let mut file = vec![1, 0, 2, 0, 2, 1, 3, 1, 0];
     file.extend([0; 10]);
     file.extend([0, 0, 0, 0x1B, 0, 0, 0, 8]);

@@ -1,0 +1,2 @@
+// Document 01, "A recording": the contents of a recording.
+pub mod table;

@@ -1,0 +1,109 @@
+// Reads a recording and writes what it decodes to (document 01, "A recording").
+mod input;
+
+use crate::input::read_all;
+use libc::STDERR_FILENO;
+use libc::STDIN_FILENO;
+use libc::STDOUT_FILENO;
+use recording::output_part;
+
+// The first argument names the file; with none, the recording is the standard input.
+fn main() {
+    let words = os::arg_count();
+    if words > 2 {
+        write_usage(STDERR_FILENO);
+        return;
+    }
+    if words < 2 {
+        decode_from(STDIN_FILENO, b"standard input");
+        return;
+    }
+    let mut argument = io::buffer();
+    let length = os::arg(1, &mut argument);
+    if os::errno() != 0 {
+        fail(b"the file's name");
+        return;
+    }
+    run(&argument[..length]);
+}
+
+// Does what the argument asks: writes the usage, or decodes the file that it names.
+fn run(argument: &[u8]) {
+    if is_same(argument, b"--help") {
+        write_usage(STDOUT_FILENO);
+        return;
+    }
+    let fd = os::open_read(argument);
+    if fd < 0 {
+        fail(argument);
+        return;
+    }
+    decode_from(fd, argument);
+    libc::close(fd);
+}
+
+// Whether two words are the same.
+fn is_same(word: &[u8], other: &[u8]) -> bool {
+    if word.len() != other.len() {
+        return false;
+    }
+    let mut i = 0;
+    while i < word.len() {
+        if word[i] != other[i] {
+            return false;
+        }
+        i += 1;
+    }
+    true
+}
+
+// Decodes the recording that a descriptor gives, or says why it cannot be read. A recording has at most 65,536 bytes, so one byte more
+// tells that it is too long.
+fn decode_from(fd: i32, name: &[u8]) {
+    let mut file = [0u8; 65537];
+    let reading = read_all(fd, &mut file);
+    if reading.is_failed {
+        fail(name);
+        return;
+    }
+    let count = reading.count;
+    write_output(&file[..count]);
+}
+
+// Writes what a recording decodes to, part by part.
+fn write_output(file: &[u8]) {
+    let mut coefficients = [0i32; 16384];
+    let mut work = [0i32; 16384];
+    let mut samples = [0i32; 16384];
+    let mut text = [0u8; 204800];
+    let mut k = 0;
+    while k < 16 {
+        let count = output_part(
+            file,
+            k,
+            &mut coefficients,
+            &mut work,
+            &mut samples,
+            &mut text,
+        );
+        if !io::write_all(STDOUT_FILENO, &text[..count]) {
+            fail(b"standard output");
+            return;
+        }
+        k += 1;
+    }
+}
+
+// Writes a line to the standard error: what failed, and why.
+fn fail(what: &[u8]) {
+    io::write_all(STDERR_FILENO, b"kafsillun: ");
+    os::fail(what);
+}
+
+// Writes how the program is used.
+fn write_usage(fd: i32) {
+    io::write_all(
+        fd,
+        b"usage: kafsillun [FILE]\n\nDecodes a recording, from FILE or from the standard input, and writes its samples.\n",
+    );
+}

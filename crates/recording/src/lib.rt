@@ -1,0 +1,100 @@
+// Document 01, "A recording": the text that a recording decodes to, part by part.
+mod lines;
+mod planes;
+
+ghost use mathlib.Core.Path.{_≡_};
+ghost use Prim.Native.Nat.{_+_, _*_, _≤_, _<_};
+ghost use lib.ListN.{length, take};
+ghost use Rattle.io.specs.Counts.{Counts};
+ghost use Rattle.component.specs.Checks.{areaOf};
+ghost use Rattle.contents.specs.Table.{entryCount};
+ghost use Rattle.text.specs.Text.{Put};
+ghost use Rattle.recording.specs.Output.{lentPlane, entryDecoded, entryLines, entryText, part};
+use crate::lines::put_entry;
+use crate::planes::lent_area;
+use crate::planes::lent_samples;
+use base::plane::zero;
+use component::parameters::Parameters;
+use contents::table::entry_at;
+use contents::table::entry_count;
+use decode::decode;
+use text::put_word;
+
+// Puts part k of what a file decodes to at the start of the text, and answers how long it is. There are at most 16 parts: one for each
+// entry, or one that says that the table is wrong. The planes may hold anything before and after.
+pub fn output_part(
+    file: &[u8],
+    k: usize,
+    coefficients: &mut [i32; 16384],
+    work: &mut [i32; 16384],
+    samples: &mut [i32; 16384],
+    text: &mut [u8; 204800],
+) -> usize
+    ensures { λ r. ⌜ take r (now (text .exit)) ≡ part (now (file .entry)) k ⌝ }
+    ensures { λ r. ⌜ Counts r (now (text .exit)) ⌝ }
+{
+    let count = entry_count(file);
+    if count == 0 {
+        if k == 0 {
+            return put_word(text, 0, b"refused 11\n");
+        }
+        return 0;
+    }
+    if count <= k {
+        return 0;
+    }
+    entry_text(file, k, coefficients, work, samples, text)
+}
+
+// Puts the lines of entry k of a recording whose table is right.
+fn entry_text(
+    file: &[u8],
+    k: usize,
+    coefficients: &mut [i32],
+    work: &mut [i32],
+    samples: &mut [i32],
+    text: &mut [u8],
+) -> usize
+    requires { ⌜ k < entryCount (now file) ⌝ }
+    requires { ⌜ (length (now coefficients) ≡ 16384) × (length (now work) ≡ 16384) × (length (now samples) ≡ 16384) × (length (now text) ≡ 204800) ⌝ }
+    ensures { λ r. ⌜ Put 0 (now (text .entry)) (entryText (now (file .entry)) k) r (now (text .exit)) ⌝ }
+    ensures { λ r. ⌜ r ≤ 204800 ⌝ }
+{
+    let entry = entry_at(file, k);
+    let p = entry.parameters;
+    let start = entry.start;
+    let end = start + entry.length;
+    let area = lent_area(p);
+    let count = lent_samples(p);
+    decoded_text(
+        k,
+        p,
+        &file[start..end],
+        &mut coefficients[..area],
+        &mut work[..area],
+        &mut samples[..count],
+        text,
+    )
+}
+
+// Decodes an entry in planes of the lengths that it is lent, and puts its lines.
+fn decoded_text(
+    k: usize,
+    p: Parameters,
+    body: &[u8],
+    coefficients: &mut [i32],
+    work: &mut [i32],
+    samples: &mut [i32],
+    text: &mut [u8],
+) -> usize
+    requires { ⌜ (length (now coefficients) ≡ length (lentPlane p (areaOf p))) × (length (now work) ≡ length (lentPlane p (areaOf p))) × (length (now samples) ≡ length (lentPlane p (p .width * p .height))) ⌝ }
+    requires { ⌜ length (now text) ≡ 204800 ⌝ }
+    ensures { λ r. ⌜ Put 0 (now (text .entry)) (entryLines k p (entryDecoded p (now (body .entry)))) r (now (text .exit)) ⌝ }
+    ensures { λ r. ⌜ r ≤ 204800 ⌝ }
+{
+    zero(coefficients);
+    zero(work);
+    zero(samples);
+    let answer = decode(p, body, coefficients, work, samples);
+    put_entry(text, k, p, answer, samples)
+}

@@ -1,0 +1,637 @@
+//! The recordings in `vectors/recordings`: that they are what the command makes, and what they cover.
+
+use crate::common::*;
+use reference::codes::{BitReader, PastEnd};
+use reference::params::{padded_area, padded_width, subbands, Subband};
+use reference::recording::parse;
+use reference::transform::fits_32_bits;
+use reference::unpack::codeblock_start;
+use reference::vectors::{filtered_level, level_end_fits, Job};
+use reference::{read_recording, Entry, Parameters};
+use std::collections::BTreeSet;
+
+const REFUSED: &str = "refused 11\n";
+
+/// The recordings of the folder.
+fn stored() -> Vec<Stored> {
+    stored_recordings("vectors/recordings")
+}
+
+#[test]
+fn the_command_writes_the_stored_files() {
+    assert_writes_folder("recordings", "vectors/recordings");
+}
+
+#[test]
+fn each_text_is_that_of_its_recording() {
+    let stored = stored();
+    assert!(stored.len() >= 130, "{} recordings", stored.len());
+    for recording in &stored {
+        let text = read_recording(&recording.file);
+        assert!(text == recording.text, "{} differs", recording.name);
+    }
+}
+
+/// An entry of a stored recording and what its text says of it.
+struct Case {
+    recording: String,
+    /// The entry's bytes in the table.
+    row: Vec<u8>,
+    entry: Entry,
+    /// The refusal's number and place, if it is refused.
+    refused: Option<(u32, u64)>,
+    /// Its samples, if it is accepted.
+    samples: Vec<i32>,
+}
+
+/// Every entry of the recordings whose table is right; their texts must have exactly the lines that
+/// document 01 gives them.
+fn cases() -> Vec<Case> {
+    let mut cases = Vec::new();
+    for recording in stored() {
+        if recording.text == REFUSED {
+            continue;
+        }
+        let mut lines = recording.text.strip_suffix('\n').unwrap().split('\n');
+        for (k, entry) in parse(&recording.file).unwrap().into_iter().enumerate() {
+            let p = &entry.parameters;
+            let line = lines.next().unwrap();
+            let line = line.strip_prefix(&format!("entry {k}: ")).unwrap();
+            let mut refused = None;
+            let mut samples = Vec::new();
+            if let Some(numbers) = line.strip_prefix("refused ") {
+                let (number, place) = numbers.split_once(" place ").unwrap();
+                refused = Some((number.parse().unwrap(), place.parse().unwrap()));
+            } else {
+                assert_eq!(line, format!("{} x {}", p.width, p.height));
+                for _ in 0..p.height {
+                    let row = lines.next().unwrap().split(' ');
+                    let before = samples.len();
+                    samples.extend(row.map(|word| word.parse::<i32>().unwrap()));
+                    assert_eq!(samples.len() - before, p.width as usize);
+                }
+            }
+            cases.push(Case {
+                recording: recording.name.clone(),
+                row: recording.file[1 + 26 * k..][..26].to_vec(),
+                entry,
+                refused,
+                samples,
+            });
+        }
+        assert_eq!(lines.next(), None, "{}", recording.name);
+    }
+    cases
+}
+
+/// Fails unless at least so many cases are of a kind.
+fn assert_cases(cases: &[Case], least: usize, kind: &str, is: impl Fn(&Case) -> bool) {
+    let count = cases.iter().filter(|case| is(case)).count();
+    assert!(count >= least, "{kind}: {count} of at least {least}");
+}
+
+#[test]
+fn every_refusal_is_there() {
+    let cases = cases();
+    for number in [1, 2, 3, 5] {
+        assert_cases(&cases, 8, &format!("refused {number}"), |case| {
+            case.refused == Some((number, 0))
+        });
+    }
+    for (number, least) in [(6, 5), (7, 5), (8, 4), (9, 3)] {
+        for place in 0..13 {
+            let kind = format!("refused {number} place {place}");
+            assert_cases(&cases, least, &kind, |case| {
+                case.refused == Some((number, place)) && case.entry.parameters.depth == 4
+            });
+        }
+        for (depth, place) in [(0, 0), (1, 3), (2, 4)] {
+            let kind = format!("refused {number} place {place} depth {depth}");
+            assert_cases(&cases, 3, &kind, |case| {
+                case.refused == Some((number, place)) && case.entry.parameters.depth == depth
+            });
+        }
+    }
+    for level in 1..=4 {
+        for wavelet in 0..7 {
+            let kind = format!("refused 10 level {level} wavelet {wavelet}");
+            assert_cases(&cases, 1, &kind, |case| {
+                case.refused == Some((10, level)) && case.entry.parameters.wavelet == wavelet
+            });
+        }
+    }
+    // A number that leaves 32 bits and comes back, and one that pad removal drops.
+    for wavelet in 0..7 {
+        assert_cases(&cases, 1, &format!("out and back {wavelet}"), |case| {
+            let p = &case.entry.parameters;
+            p.wavelet == wavelet
+                && p.depth == 1
+                && case.refused == Some((10, 1))
+                && level_end_fits(&synthesis_job(&case.entry))
+        });
+    }
+    for (width, height) in [(1, 2), (2, 1)] {
+        assert_cases(
+            &cases,
+            1,
+            &format!("padding of {width} x {height}"),
+            |case| {
+                let p = &case.entry.parameters;
+                (p.width, p.height) == (width, height)
+                    && case.refused == Some((10, 1))
+                    && kept_part_fits(&synthesis_job(&case.entry))
+            },
+        );
+    }
+    // No other can occur in an entry.
+    let possible = [1, 2, 3, 5, 6, 7, 8, 9, 10];
+    for case in &cases {
+        if let Some((number, _)) = case.refused {
+            assert!(possible.contains(&number), "{}", case.recording);
+        }
+    }
+}
+
+/// The call of synthesise that decoding an entry makes.
+fn synthesis_job(entry: &Entry) -> Job {
+    let (given, coefficients) = run_unpack(&entry.parameters, &entry.body);
+    assert_eq!(given.status, 0);
+    Job {
+        parameters: entry.parameters.clone(),
+        coefficients,
+    }
+}
+
+/// Whether the numbers that pad removal keeps fit 32 bits after the filters of a job of depth 1, though
+/// others don't.
+fn kept_part_fits(job: &Job) -> bool {
+    let p = &job.parameters;
+    let picture = filtered_level(job);
+    let fits = |width: usize, height: usize| {
+        (0..height).all(|y| (0..width).all(|x| fits_32_bits(picture.get(x, y))))
+    };
+    fits(p.width as usize, p.height as usize) && !fits(picture.width, picture.height)
+}
+
+/// The refusals of a recording's entries, in order; 0 place 0 where accepted.
+fn refusals(cases: &[Case], recording: &str) -> Vec<(u32, u64)> {
+    cases
+        .iter()
+        .filter(|case| case.recording == recording)
+        .map(|case| case.refused.unwrap_or((0, 0)))
+        .collect()
+}
+
+#[test]
+fn names_say_what_is_refused() {
+    let cases = cases();
+    for case in &cases {
+        if let Some(rest) = case.recording.strip_prefix("refused-") {
+            let number: u32 = rest.split('-').next().unwrap().parse().unwrap();
+            match case.refused {
+                Some((given, _)) => assert_eq!(given, number, "{}", case.recording),
+                None => assert!(number <= 5, "{}", case.recording),
+            }
+        }
+    }
+    // One way to be refused at every subband.
+    let mut count = 0;
+    let names: BTreeSet<&str> = cases.iter().map(|case| &case.recording[..]).collect();
+    for name in names {
+        let ways = ["6-", "7-", "8-", "9-"];
+        let number = ways.iter().find_map(|way| {
+            let rest = name
+                .strip_prefix("refused-")
+                .or_else(|| name.strip_prefix("order-"))?;
+            rest.starts_with(way).then(|| way[..1].parse().unwrap())
+        });
+        let others = [
+            "refused-9-predicted",
+            "order-6-to-9-before-10",
+            "order-7-and-9-in-a-subband",
+        ];
+        if let Some(number) = number.filter(|_| !others.contains(&name)) {
+            let places = (0..13).chain([0, 3, 4]);
+            let expected: Vec<(u32, u64)> = places.map(|place| (number, place)).collect();
+            assert_eq!(refusals(&cases, name), expected, "{name}");
+            count += 1;
+        }
+    }
+    assert_eq!(count, 19);
+    assert_eq!(refusals(&cases, "refused-9-predicted"), [(9, 0); 14]);
+    // Parameters out of range, and at the end some that aren't.
+    for (name, number, count) in [
+        ("refused-1-sizes", 1, 8),
+        ("refused-2-depths", 2, 7),
+        ("refused-3-wavelets", 3, 5),
+        ("refused-5-areas", 5, 9),
+    ] {
+        let mut expected = vec![(number, 0); count];
+        expected.push((0, 0));
+        assert_eq!(refusals(&cases, name), expected, "{name}");
+    }
+    for level in 1..=4 {
+        let name = format!("refused-10-at-level-{level}");
+        assert_eq!(refusals(&cases, &name), [(10, level); 7]);
+    }
+}
+
+#[test]
+fn the_first_refusal_is_given() {
+    let cases = cases();
+    // Each set of a width of 0, a depth of 9, a wavelet of 9 and a padded area above 16,384.
+    for (name, otherwise) in [("order-1-2-3-5", 0), ("order-1-2-3-5-without-bytes", 6)] {
+        let expected: Vec<(u32, u64)> = (0..16)
+            .map(|set| match set {
+                _ if set & 1 == 1 => (1, 0),
+                _ if set & 2 == 2 => (2, 0),
+                _ if set & 4 == 4 => (3, 0),
+                _ if set & 8 == 8 => (5, 0),
+                _ => (otherwise, 0),
+            })
+            .collect();
+        assert_eq!(refusals(&cases, name), expected);
+    }
+    let values = [9, 7, 9, 7, 7, 9].map(|number| (number, 0));
+    assert_eq!(
+        refusals(&cases, "order-7-and-9-in-a-subband"),
+        [values, values].concat()
+    );
+    let level_0 = [(7, 0), (9, 0), (7, 0), (9, 0)];
+    let intra = [(9, 0); 5];
+    let not_intra = [(6, 1), (6, 1), (7, 1), (8, 1), (9, 1)];
+    assert_eq!(
+        refusals(&cases, "order-prediction-after-its-subband"),
+        [&level_0[..], &intra, &not_intra].concat()
+    );
+    let last = [(10, 1), (6, 12), (7, 12), (8, 12), (9, 12)];
+    assert_eq!(
+        refusals(&cases, "order-6-to-9-before-10"),
+        [last, last].concat()
+    );
+    let levels = [(10, 4), (10, 1), (10, 2), (10, 3)];
+    assert_eq!(
+        refusals(&cases, "order-lowest-level-of-10"),
+        [levels, levels, levels].concat()
+    );
+    // A body without bytes, whatever else there is.
+    assert_cases(&cases, 20, "no bytes", |case| {
+        case.entry.body.is_empty() && case.refused == Some((6, 0))
+    });
+}
+
+#[test]
+fn every_wavelet_and_depth_is_accepted() {
+    let cases = cases();
+    for wavelet in 0..7 {
+        for depth in 0..=4 {
+            let of = |case: &Case| {
+                let p = &case.entry.parameters;
+                case.refused.is_none() && p.wavelet == wavelet && p.depth == depth
+            };
+            for intra in [false, true] {
+                let kind = format!("wavelet {wavelet} depth {depth} intra {intra}");
+                assert_cases(&cases, 1, &kind, |case| {
+                    of(case) && case.entry.parameters.intra == intra
+                });
+            }
+            let kind = format!("wavelet {wavelet} depth {depth} values in every subband");
+            assert_cases(&cases, 1, &kind, |case| {
+                of(case) && has_values_in_every_subband(&case.entry)
+            });
+        }
+    }
+}
+
+/// Whether each subband of an entry has a coefficient other than 0.
+fn has_values_in_every_subband(entry: &Entry) -> bool {
+    let p = &entry.parameters;
+    let (_, plane) = run_unpack(p, &entry.body);
+    subbands(p).iter().all(|band| {
+        (band.top..band.top + band.height).any(|y| {
+            let row = &plane[y * padded_width(p)..][..padded_width(p)];
+            row[band.left..band.left + band.width]
+                .iter()
+                .any(|&value| value != 0)
+        })
+    })
+}
+
+#[test]
+fn every_size_is_there() {
+    let cases = cases();
+    let accepted = |case: &Case, width: u32, height: u32| {
+        let p = &case.entry.parameters;
+        case.refused.is_none() && p.width == width && p.height == height
+    };
+    for depth in 0..=4 {
+        assert_cases(&cases, 2, &format!("1 x 1 depth {depth}"), |case| {
+            accepted(case, 1, 1) && case.entry.parameters.depth == depth
+        });
+    }
+    for (width, height) in [(1, 100), (100, 1), (15, 17), (4096, 4), (4, 4096)] {
+        assert_cases(&cases, 1, &format!("{width} x {height}"), |case| {
+            accepted(case, width, height)
+        });
+    }
+    assert_cases(&cases, 30, "padded", |case| {
+        case.refused.is_none() && padded_area(&case.entry.parameters) > case.samples.len()
+    });
+    // The largest padded area and the next above, 129 x 127 at depth 1.
+    assert_cases(&cases, 5, "an area of 16,384", |case| {
+        case.refused.is_none() && padded_area(&case.entry.parameters) == 16_384
+    });
+    let largest = cases
+        .iter()
+        .filter(|case| case.refused.is_none())
+        .map(|case| padded_area(&case.entry.parameters))
+        .max();
+    assert_eq!(largest, Some(16_384));
+    assert_cases(&cases, 1, "129 x 127", |case| {
+        let p = &case.entry.parameters;
+        let given = case.refused == Some((5, 0));
+        given && (p.width, p.height, p.depth) == (129, 127, 1) && padded_area(p) == 16_640
+    });
+}
+
+/// What the bytes of an accepted entry hold.
+#[derive(Default)]
+struct Contents {
+    /// Subbands of length 0.
+    skipped_subbands: usize,
+    /// The quantiser indices of the others.
+    indices: Vec<u64>,
+    /// Codeblocks with values that are flagged, empty ones that are, and empty ones that aren't.
+    codeblocks: [usize; 3],
+    /// Subbands whose values or flags go on past the stated length.
+    past_the_length: usize,
+    /// Bytes after the last subband.
+    bytes_left: usize,
+}
+
+/// Reads the bytes of an accepted entry, and leaves the values aside.
+fn contents(entry: &Entry) -> Contents {
+    let p = &entry.parameters;
+    let mut contents = Contents::default();
+    let mut rest = &entry.body[..];
+    for band in subbands(p) {
+        let mut header = BitReader::new(rest, PastEnd::Missing);
+        let length = header.number().unwrap() as usize;
+        if length == 0 {
+            contents.skipped_subbands += 1;
+            rest = &rest[header.align()..];
+            continue;
+        }
+        contents.indices.push(header.number().unwrap());
+        let (data, behind) = rest[header.align()..].split_at(length);
+        rest = behind;
+        let within = read_codeblocks(p, &band, BitReader::new(data, PastEnd::Missing));
+        contents.past_the_length += usize::from(within.is_err());
+        let read = read_codeblocks(p, &band, BitReader::new(data, PastEnd::One)).unwrap();
+        for (count, more) in contents.codeblocks.iter_mut().zip(read) {
+            *count += more;
+        }
+    }
+    contents.bytes_left = rest.len();
+    contents
+}
+
+/// The counts of a subband's codeblocks, or the status of a number that can't be read.
+fn read_codeblocks(
+    p: &Parameters,
+    band: &Subband,
+    mut reader: BitReader,
+) -> Result<[usize; 3], u32> {
+    let across = p.codeblocks_across[band.level as usize] as usize;
+    let down = p.codeblocks_down[band.level as usize] as usize;
+    let mut counts = [0; 3];
+    for block in 0..across * down {
+        let (x, y) = (block % across, block / across);
+        let side =
+            |size, k, count| codeblock_start(size, k + 1, count) - codeblock_start(size, k, count);
+        let values = side(band.width, x, across) * side(band.height, y, down);
+        let flagged = across * down > 1 && reader.bit()? == 1;
+        counts[0] += usize::from(flagged && values > 0);
+        counts[1] += usize::from(flagged && values == 0);
+        counts[2] += usize::from(!flagged && values == 0);
+        if !flagged {
+            for _ in 0..values {
+                reader.signed_number()?;
+            }
+        }
+    }
+    Ok(counts)
+}
+
+/// Every accepted entry.
+fn accepted() -> Vec<Case> {
+    cases()
+        .into_iter()
+        .filter(|case| case.refused.is_none())
+        .collect()
+}
+
+#[test]
+fn every_kind_of_codeblock_is_there() {
+    let cases = accepted();
+    let kinds = [
+        ("skipped", 40),
+        ("empty and skipped", 35),
+        ("empty and not skipped", 30),
+    ];
+    for (k, (kind, least)) in kinds.into_iter().enumerate() {
+        for intra in [false, true] {
+            assert_cases(&cases, least, kind, |case| {
+                case.entry.parameters.intra == intra && contents(&case.entry).codeblocks[k] > 0
+            });
+        }
+    }
+    // The counts of a level, as the table has them.
+    let pair = |case: &Case, level: usize| (case.row[8 + 2 * level], case.row[9 + 2 * level]);
+    let used = |case: &Case| 0..=case.entry.parameters.depth as usize;
+    let above = |case: &Case| case.entry.parameters.depth as usize + 1..5;
+    assert_cases(&cases, 4, "default down beside another across", |case| {
+        used(case).any(|level| pair(case, level).0 > 1 && pair(case, level).1 == 0)
+    });
+    assert_cases(&cases, 4, "default across beside another down", |case| {
+        used(case).any(|level| pair(case, level).0 == 0 && pair(case, level).1 > 1)
+    });
+    assert_cases(&cases, 5, "default everywhere", |case| {
+        case.row[8..18].iter().all(|&count| count == 0)
+    });
+    assert_cases(&cases, 4, "255 each way", |case| {
+        pair(case, 0) == (255, 255)
+    });
+    for count in [0, 255] {
+        assert_cases(&cases, 4, "counts above the depth", |case| {
+            above(case).any(|level| pair(case, level).0 == count)
+                && used(case).all(|level| pair(case, level).0 != count)
+        });
+    }
+    let narrow = |band: &Subband, p: &Parameters| {
+        p.codeblocks_across[band.level as usize] as usize > band.width
+    };
+    let low = |band: &Subband, p: &Parameters| {
+        p.codeblocks_down[band.level as usize] as usize > band.height
+    };
+    let any = |case: &Case, is: &dyn Fn(&Subband, &Parameters) -> bool| {
+        let p = &case.entry.parameters;
+        subbands(p).iter().any(|band| is(band, p))
+    };
+    assert_cases(&cases, 70, "more codeblocks than columns", |case| {
+        any(case, &narrow)
+    });
+    assert_cases(&cases, 70, "more codeblocks than rows", |case| {
+        any(case, &low)
+    });
+}
+
+#[test]
+fn every_quantiser_index_is_accepted() {
+    let indices: BTreeSet<u64> = accepted()
+        .iter()
+        .flat_map(|case| contents(&case.entry).indices)
+        .collect();
+    assert!(indices.into_iter().eq(0..=115));
+}
+
+#[test]
+fn every_use_of_bytes_is_there() {
+    let cases = accepted();
+    for case in &cases {
+        let used = case.entry.body.len() - contents(&case.entry).bytes_left;
+        let given = run_unpack(&case.entry.parameters, &case.entry.body).0;
+        assert_eq!(given, answer(0, used as u64), "{}", case.recording);
+    }
+    assert_cases(&cases, 250, "a body used to its end", |case| {
+        contents(&case.entry).bytes_left == 0
+    });
+    assert_cases(&cases, 50, "bytes after the used part", |case| {
+        contents(&case.entry).bytes_left > 0
+    });
+    assert_cases(&cases, 70, "bits past a length", |case| {
+        contents(&case.entry).past_the_length > 0
+    });
+    assert_cases(&cases, 90, "a subband of length 0", |case| {
+        contents(&case.entry).skipped_subbands > 0
+    });
+    // The used part is the largest that there may be in a file.
+    assert_cases(&cases, 1, "a file used to its end", |case| {
+        contents(&case.entry).bytes_left == 0 && case.entry.body.len() == 65_536 - 27
+    });
+}
+
+#[test]
+fn the_extremes_of_32_bits_are_printed() {
+    let cases = cases();
+    for extreme in [i32::MIN, i32::MAX] {
+        for depth in 0..=4 {
+            for intra in [false, true] {
+                let kind = format!("{extreme} depth {depth} intra {intra}");
+                assert_cases(&cases, 1, &kind, |case| {
+                    let p = &case.entry.parameters;
+                    p.depth == depth && p.intra == intra && case.samples.contains(&extreme)
+                });
+            }
+        }
+    }
+}
+
+#[test]
+fn entries_stand_beside_each_other() {
+    let cases = cases();
+    let answers = |name| refusals(&cases, name);
+    assert_eq!(answers("entries-16"), [(0, 0); 16]);
+    let between: Vec<u32> = answers("entries-refused-between-accepted")
+        .iter()
+        .map(|(number, _)| *number)
+        .collect();
+    assert_eq!(between, [0, 1, 2, 0, 3, 0, 5, 0, 6, 7, 0, 8, 0, 9, 10, 0]);
+    assert_eq!(
+        answers("entries-refused-first-and-last"),
+        [(1, 0), (0, 0), (0, 0), (6, 0)]
+    );
+    assert_eq!(answers("table-right-16-empty-bodies"), [(6, 0); 16]);
+}
+
+/// What can be wrong with a recording's form (document 01, "A recording").
+#[derive(Clone, Copy, Debug, PartialEq, Eq, PartialOrd, Ord)]
+enum Breach {
+    TooLarge,
+    NoCount,
+    Count,
+    ShortTable,
+    Intra,
+    ZeroByte,
+    Offset,
+    End,
+}
+
+/// All that is wrong with a file, a body's end being the sum that is given of its start and length.
+fn breaches(file: &[u8], sum: fn(u64, u32) -> u64) -> BTreeSet<Breach> {
+    let mut found = BTreeSet::new();
+    let mut check = |breach, wrong| {
+        if wrong {
+            found.insert(breach);
+        }
+    };
+    check(Breach::TooLarge, file.len() > 65_536);
+    let Some(&count) = file.first() else {
+        return BTreeSet::from([Breach::NoCount]);
+    };
+    check(Breach::Count, count == 0 || count > 16);
+    let Some(table) = file.get(1..1 + 26 * count as usize) else {
+        check(Breach::ShortTable, true);
+        return found;
+    };
+    let mut end = 1 + table.len() as u64;
+    for row in table.chunks(26) {
+        let four = |at: usize| u32::from_be_bytes(row[at..at + 4].try_into().unwrap());
+        check(Breach::Intra, row[6] > 1);
+        check(Breach::ZeroByte, row[7] != 0);
+        check(Breach::Offset, u64::from(four(18)) != end);
+        end = sum(end, four(22));
+    }
+    check(Breach::End, end != file.len() as u64);
+    found
+}
+
+#[test]
+fn every_way_a_table_can_be_wrong_is_there() {
+    let exact = |start: u64, length: u32| start + u64::from(length);
+    let wrapped = |start: u64, length: u32| u64::from((start as u32).wrapping_add(length));
+    let mut wrong = Vec::new();
+    let mut right_if_sums_wrapped = 0;
+    for recording in stored() {
+        let found = breaches(&recording.file, exact);
+        assert_eq!(
+            found.is_empty(),
+            recording.text != REFUSED,
+            "{}",
+            recording.name
+        );
+        if !found.is_empty() {
+            right_if_sums_wrapped += usize::from(breaches(&recording.file, wrapped).is_empty());
+            wrong.push(found);
+        }
+    }
+    assert!(wrong.len() >= 50, "{} wrong tables", wrong.len());
+    for (breach, least) in [
+        (Breach::TooLarge, 1),
+        (Breach::NoCount, 1),
+        (Breach::Count, 2),
+        (Breach::ShortTable, 8),
+        (Breach::Intra, 4),
+        (Breach::ZeroByte, 3),
+        (Breach::Offset, 6),
+        (Breach::End, 7),
+    ] {
+        let alone = BTreeSet::from([breach]);
+        let count = wrong.iter().filter(|found| **found == alone).count();
+        assert!(
+            count >= least,
+            "{breach:?} alone: {count} of at least {least}"
+        );
+    }
+    assert_eq!(right_if_sums_wrapped, 3);
+}

@@ -1,0 +1,56 @@
+//! The recordings in `samples`.
+
+use crate::common::*;
+use crate::worked_case;
+use reference::read_recording;
+use reference::recording::parse;
+use reference::samples::{pad_edge_parameters, pad_edge_picture};
+
+#[test]
+fn the_command_writes_the_stored_files() {
+    assert_writes_folder("samples", "samples");
+}
+
+/// The sample of a name; its text must be what it decodes to.
+fn sample(name: &str) -> Stored {
+    let sample = stored_recordings("samples")
+        .into_iter()
+        .find(|sample| sample.name == name)
+        .unwrap();
+    assert_eq!(read_recording(&sample.file), sample.text);
+    sample
+}
+
+#[test]
+fn the_whole_case() {
+    let sample = sample("whole-case");
+    assert_eq!(sample.file, worked_case::file());
+    assert_eq!(sample.file.len(), 35);
+    assert_eq!(sample.text, "entry 0: 2 x 2\n9 12\n7 11\n");
+}
+
+#[test]
+fn the_edge_of_a_pad() {
+    let sample = sample("pad-edge");
+    let entries = parse(&sample.file).unwrap();
+    assert_eq!(entries.len(), 1);
+    let p = &entries[0].parameters;
+    assert_eq!(*p, pad_edge_parameters());
+    assert_eq!((p.width, p.height, p.depth, p.wavelet), (64, 48, 3, 1));
+    assert!(p.intra);
+    let (given, _, _, samples) = run_decode(p, &entries[0].body);
+    assert_eq!(given, answer(0, entries[0].body.len() as u64));
+    // Coding changes a sample by a few steps only, and the edge stays sharp in every row.
+    let picture = pad_edge_picture();
+    assert_eq!(samples.len(), picture.len());
+    let mut changed = 0;
+    for (&sample, &before) in samples.iter().zip(&picture) {
+        assert!((i64::from(sample) - before).abs() <= 12);
+        changed += usize::from(i64::from(sample) != before);
+    }
+    assert!(changed > 0);
+    for row in samples.chunks(64) {
+        let largest = row.windows(2).map(|pair| pair[1] - pair[0]).max();
+        assert!(largest >= Some(60), "{largest:?}");
+    }
+}
