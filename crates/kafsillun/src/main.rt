@@ -102,8 +102,17 @@ fn fail(what: &[u8]) {
 
 // Writes how the program is used.
 fn write_usage(fd: i32) {
+    io::write_all(fd, b"usage: kafsillun [FILE]\n\n");
     io::write_all(
         fd,
-        b"usage: kafsillun [FILE]\n\nDecodes a recording, from FILE or from the standard input, and writes its samples.\n",
+        b"Decodes the recording in FILE, or in the standard input, and writes, for each entry,\n",
+    );
+    io::write_all(
+        fd,
+        b"a line with its sizes and a line for each row of its samples, or one line that says\n",
+    );
+    io::write_all(
+        fd,
+        b"by which number and at which place it is refused. Only `refused 11`: a wrong table.\n",
     );
 }

@@ -1,2 +1,3 @@
 pub mod LentLaws
 pub mod EntryLaws
+pub mod OutputLaws

@@ -5,6 +5,7 @@ ghost use Prim.Native.Nat.{_+_, _*_, _<_};
 ghost use lib.ListN.{length};
 ghost use Rattle.base.specs.Fill.{fill};
 use libc::STDOUT_FILENO;
+use text::magnitude;
 
 // The number of two bytes, the high one first.
 pub fn two_bytes(high: u8, low: u8) -> u32
@@ -62,13 +63,4 @@ fn print_entry(column: usize, number: i32) {
         io::write_all(STDOUT_FILENO, b"-");
     }
     io::print_decimal(STDOUT_FILENO, magnitude(number));
-}
-
-// A number without its sign.
-fn magnitude(number: i32) -> u64 {
-    if number < 0 {
-        (-1 - number) as u64 + 1
-    } else {
-        number as u64
-    }
 }

@@ -1,1 +1,2 @@
 pub mod WorkedExamples
+pub mod WholeCase
