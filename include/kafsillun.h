@@ -1,0 +1,134 @@
+/*
+ * Kafsillun: a decoder for one component of a Dirac wavelet picture.
+ *
+ * Three jobs: kafsillun_unpack makes coefficients of bytes, kafsillun_synthesise makes samples of coefficients, kafsillun_decode does
+ * both. Each is proved to give, for every input, the answer that is written here. The delivery without the unpacker has
+ * kafsillun_synthesise alone.
+ *
+ * What holds of every function
+ *
+ *   - Any values of the parameters, any bytes and any lengths are allowed. What is out of range is refused, with a status.
+ *   - It returns always, calls nothing back, allocates nothing and keeps nothing between calls, so it can be called from several threads
+ *     at once. It reads and writes only what it is lent. It needs some 52 KiB of stack, whatever the size of the component.
+ *   - Bytes and planes are passed as a pointer and a length, which counts entries. The caller owes what C's own functions ask: the pointer
+ *     is aligned for its type and that many entries may be read, and written where the pointer is not to const. A plane that is written
+ *     overlaps nothing else that the call is lent. The pointer of an empty plane or of no bytes may be any, NULL too.
+ *   - What a plane that is written holds before the call does not matter, unless the call leaves it unchanged.
+ */
+#ifndef KAFSILLUN_H
+#define KAFSILLUN_H
+
+#include <stddef.h>
+#include <stdint.h>
+
+/* The delivery without the unpacker has the next line in force. */
+/* #define KAFSILLUN_SYNTHESISE_ONLY 1 */
+
+#ifdef __cplusplus
+extern "C" {
+#endif
+
+/*
+ * The parameters of a component.
+ *
+ * With s = 2^depth, the padded width is the width rounded up to a multiple of s, and the padded height the height.
+ */
+typedef struct KafsillunParameters {
+    uint32_t width;                /* 1 to 4096 */
+    uint32_t height;               /* 1 to 4096 */
+    uint32_t depth;                /* levels of the transform, 0 to 4 */
+    uint32_t wavelet;              /* Dirac's wavelet index, 0 to 6; unpack does not look at it */
+    uint32_t intra;                /* 0: no; any other number: yes, level 0 is predicted; synthesise does not look at it */
+    uint32_t codeblocks_across[5]; /* for each level 0 to depth, 1 to 255; those above are not looked at, and none by synthesise */
+    uint32_t codeblocks_down[5];   /* likewise */
+} KafsillunParameters;
+
+/*
+ * The lengths of the planes, in entries.
+ *
+ *   coefficients   padded width times padded height, in rows of the padded width. LL stands at the top left. A level n from 1 to depth has
+ *                  bands of padded width / 2^(depth - n + 1) columns (bw) and padded height / 2^(depth - n + 1) rows (bh): HL starts at
+ *                  column bw, row 0; LH at column 0, row bh; HH at column bw, row bh.
+ *   work           padded width times padded height
+ *   samples        width times height, in rows of the width
+ */
+
+/*
+ * What a job answers: a status of the list below, and its place.
+ *
+ *   status 0        the place is the number of bytes used; of kafsillun_synthesise, 0
+ *   status 1 to 5   0
+ *   status 6 to 9   the subband, from 0 in stream order: LL, then HL, LH and HH of level 1, of level 2 and on
+ *   status 10       the first level, from 1, at which it happened
+ */
+typedef struct KafsillunAnswer {
+    uint32_t status;
+    size_t place;
+} KafsillunAnswer;
+
+/*
+ * Every status. No other number is ever given. Checks run in this order, and the first that applies is the answer; 6 to 9 arise in the
+ * order of reading, and the earliest ends the call.
+ *
+ * After 0 the coefficients are as unpacked (unpack, decode), the samples as synthesised, and work is all zeros. After 1 to 5 every plane is
+ * as it was. After 6 to 10 every plane that the call may write is all zeros.
+ */
+enum KafsillunStatus {
+    KAFSILLUN_ACCEPTED = 0,               /* accepted */
+    KAFSILLUN_SIZE_REFUSED = 1,           /* width or height is outside 1 to 4096 */
+    KAFSILLUN_DEPTH_REFUSED = 2,          /* the depth is outside 0 to 4 */
+    KAFSILLUN_WAVELET_REFUSED = 3,        /* the wavelet index is outside 0 to 6; not of unpack */
+    KAFSILLUN_CODEBLOCKS_REFUSED = 4,     /* a count of a level 0 to depth is outside 1 to 255; not of synthesise */
+    KAFSILLUN_PLANE_REFUSED = 5,          /* a plane does not have exactly the length it needs */
+    KAFSILLUN_BYTES_END_EARLY = 6,        /* the bytes end early; 6 to 9 not of synthesise */
+    KAFSILLUN_CODE_TOO_LONG = 7,          /* a number code has more than 31 data bits */
+    KAFSILLUN_QUANTISER_REFUSED = 8,      /* a quantiser index is above 115 */
+    KAFSILLUN_VALUE_OUT_OF_RANGE = 9,     /* an unpacked or predicted value is outside signed 32 bits */
+    KAFSILLUN_SYNTHESIS_OUT_OF_RANGE = 10 /* a number assigned in synthesis is outside signed 32 bits; not of unpack */
+};
+
+/*
+ * Makes samples of coefficients, which it only reads.
+ *
+ * Gives 0, 1, 2, 3, 5 or 10. After 0 the samples are as synthesised and work is all zeros; after 1, 2, 3 and 5 work and samples are as they
+ * were; after 10 both are all zeros.
+ */
+KafsillunAnswer kafsillun_synthesise(
+    KafsillunParameters parameters,
+    const int32_t *coefficients, size_t coefficients_length,
+    int32_t *work, size_t work_length,
+    int32_t *samples, size_t samples_length);
+
+#ifndef KAFSILLUN_SYNTHESISE_ONLY
+
+/*
+ * Reads the coefficients of a component from its bytes. Bytes after those used do not matter.
+ *
+ * Gives 0, 1, 2, 4, 5 or 6 to 9. After 0 the coefficients are as unpacked; after 1, 2, 4 and 5 they are as they were; after 6 to 9 they are
+ * all zeros.
+ */
+KafsillunAnswer kafsillun_unpack(
+    KafsillunParameters parameters,
+    const uint8_t *bytes, size_t bytes_length,
+    int32_t *coefficients, size_t coefficients_length);
+
+/*
+ * Reads the coefficients of a component from its bytes and makes samples of them. Bytes after those used do not matter.
+ *
+ * Gives 0 to 10. After 0 the coefficients are as unpacked, the samples as synthesised, and work is all zeros; after 1 to 5 all three planes
+ * are as they were; after 6 to 10 all three are all zeros.
+ */
+KafsillunAnswer kafsillun_decode(
+    KafsillunParameters parameters,
+    const uint8_t *bytes, size_t bytes_length,
+    int32_t *coefficients, size_t coefficients_length,
+    int32_t *work, size_t work_length,
+    int32_t *samples, size_t samples_length);
+
+#endif /* KAFSILLUN_SYNTHESISE_ONLY */
+
+#ifdef __cplusplus
+}
+#endif
+
+#endif /* KAFSILLUN_H */
