@@ -4,21 +4,23 @@
 use mathlib.Core.Path.{_≡_, refl, sym, ap, _∙_, subst}
 use mathlib.Core.Logic.{_≢_}
 use mathlib.Core.Bool.{Bool, true, false, cond}
-use Prim.Native.Nat.{ℕ, _+_, _*_, _/_, _%_, _≤_, _<_}
+use Prim.Native.Nat.{ℕ, _+_, _-_, _*_, _/_, _%_, _^_, _≤_, _<_, min}
 use native.Mathlib.Decide.{decLt}
 use native.Mathlib.Omega.{arith}
-use borrow.Author.Tests.{eqb-true}
+use borrow.Author.Tests.{eqb-true, ne-eqb}
+use lib.Dec.{eqb}
+use lib.IntN.{natAbs}
 use Rattle.base.specs.Every.{allBelow}
 use Rattle.base.specs.Range.{fits32}
 use Rattle.base.proofs.Everys.{all-at, all-from, all-same, same-test}
 use Rattle.lifting.specs.Lifting.{changes, lift}
-use Rattle.lifting.specs.Layout.{Agree, targetRow}
+use Rattle.lifting.specs.Layout.{Agree, targetRow, sourceRow}
 use Rattle.lifting.specs.Passes.{Picture, columns, run, assigns, newFit}
 use Rattle.lifting.specs.Table.{stepOf}
 use Rattle.lifting.specs.declared.filters.LiftingStep.{LiftingStep}
 use Rattle.lifting.proofs.Lifts.{EvenLength, lift-at, lift-keeps}
 use Rattle.lifting.proofs.PassLaws.{new-each, new-all}
-use Rattle.lifting.proofs.Frames.{target-below}
+use Rattle.lifting.proofs.Frames.{target-below, source-below}
 use Rattle.lifting.proofs.Taps.{type-says, target-changes}
 
 -- twice a number that is not 0 is an even length
@@ -35,6 +37,12 @@ parity-target : (even : Bool) (row : ℕ) → row % 2 ≡ cond even 0 1 → row 
 unfolding targetRow
 parity-target even row e = omega (arith, e)
 
+-- a row that is read has the other parity
+source-other : (even : Bool) (b s : ℕ) → eqb (sourceRow even b s % 2) (cond even 0 1) ≡ false
+unfolding sourceRow
+source-other true b s = let m = min (s - 4) (b - 1) in ne-eqb ((2 * m + 1) % 2) 0 (λ e. omega arith)
+source-other false b s = let m = min (s - 4) (b - 1) in ne-eqb ((2 * m + 0) % 2) 1 (λ e. omega arith)
+
 module _ (r : LiftingStep) where
   -- a step changes the targets of the pairs, and no other rows
   target-changed : (k : ℕ) → changes (stepOf r .type) (targetRow (r .even) k) ≡ true
@@ -50,6 +58,11 @@ module _ (r : LiftingStep) where
       let both : true ≡ false = sym (target-changed k) ∙ ap (changes (stepOf r .type)) (sym e) ∙ kept in
       let never : _≡_ {A = ℕ} 0 1 = cc in
       omega arith
+
+  -- it does not change the rows that it reads
+  source-kept : (b s : ℕ) → changes (stepOf r .type) (sourceRow (r .even) b s) ≡ false
+  unfolding changes stepOf
+  source-kept b s = rw (type-says (r .even) (r .adds) .0) (source-other (r .even) b s)
 
 -- What a step has made of a picture P, of b pairs of rows, once it has changed the first k pairs.
 pub record Partly (r : LiftingStep) (b w : ℕ) (P : Picture) (k : ℕ) (Q : Picture) : Type 0 where
@@ -82,6 +95,17 @@ module _ (r : LiftingStep) (b w : ℕ) (P : Picture) where
         allBelow w (λ column. fits32 (lift (stepOf r) (2 * b) (λ row. Q row column) (targetRow (r .even) k)))
         ≡ allBelow w (λ column. fits32 (run (2 * b) w (columns (stepOf r)) P (targetRow (r .even) k) column))
     fits-now = all-same _ _ w (λ column inside. ap fits32 (lift-now column inside))
+
+    -- where the picture was small, the rows that pair k is made from and of still are
+    module _ (small : (row : ℕ) → row < 2 * b → (column : ℕ) → column < w → natAbs (P row column) ≤ 2 ^ 16) where
+      pub small-source : (s column : ℕ) → column < w → natAbs (Q (sourceRow (r .even) b s) column) ≤ 2 ^ 16
+      small-source s column inside =
+          let row = source-below (r .even) b s some in
+          rw (partly .kept (sourceRow (r .even) b s) column row inside (source-kept r b s)) (small (sourceRow (r .even) b s) row column inside)
+
+      pub small-target : (column : ℕ) → column < w → natAbs (Q (targetRow (r .even) k) column) ≤ 2 ^ 16
+      small-target column inside =
+          rw (partly .todo k column (omega arith) now inside) (small (targetRow (r .even) k) (target-below (r .even) k b now) column inside)
 
     -- one pair more
     pub partly-more :

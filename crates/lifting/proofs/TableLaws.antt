@@ -16,6 +16,7 @@ use Rattle.base.specs.Every.{allBelow}
 use Rattle.base.proofs.Everys.{and-left, and-right, all-at}
 use Rattle.base.proofs.Magnitudes.{mag-size}
 use Rattle.base.proofs.Ranges.{back}
+use Rattle.lines.specs.Buffers.{sizeSum}
 use Rattle.lifting.specs.Lifting.{Step, rounding}
 use Rattle.lifting.specs.Filters.{filterOf}
 use Rattle.lifting.specs.Table.{stepOf, Sane}
@@ -49,17 +50,23 @@ abbrev pub saneTest : LiftingStep → Bool
 saneTest r =
     (leb (r .count) 8 && leb (r .lead + r .count) 9)
     && (leb (r .scale) 12 && allBelow 8 (λ t. leb (natAbs (getD (r .taps) t (pos 0))) (2 ^ 13)))
+    && leb (sizeSum (r .taps) (r .count)) (2 ^ 14)
 
 -- what it says
 sane : (r : LiftingStep) → saneTest r ≡ true → Sane r
 sane r e =
-    let front = and-left (leb (r .count) 8 && leb (r .lead + r .count) 9) _ e in
-    let rest = and-right (leb (r .count) 8 && leb (r .lead + r .count) 9) _ e in
+    let ends = leb (r .count) 8 && leb (r .lead + r .count) 9 in
+    let sizes = leb (r .scale) 12 && allBelow 8 (λ t. leb (natAbs (getD (r .taps) t (pos 0))) (2 ^ 13)) in
+    let gain = leb (sizeSum (r .taps) (r .count)) (2 ^ 14) in
+    let both = and-left (ends && sizes) gain e in
+    let front = and-left ends sizes both in
+    let rest = and-right ends sizes both in
     record {
       few-taps = leb-true (r .count) 8 (and-left (leb (r .count) 8) _ front);
       near = leb-true (r .lead + r .count) 9 (and-right (leb (r .count) 8) _ front);
       small-scale = leb-true (r .scale) 12 (and-left (leb (r .scale) 12) _ rest);
       small-taps = λ t h. leb-true _ (2 ^ 13) (all-at (λ t. leb (natAbs (getD (r .taps) t (pos 0))) (2 ^ 13)) 8 t (and-right (leb (r .scale) 12) _ rest) h);
+      small-gain = leb-true _ (2 ^ 14) (and-right (ends && sizes) gain e);
     }
 
 -- An entry of the table is step k of the filter of a wavelet index, and its sizes are in their bounds: how that is shown, and what it says.
@@ -90,6 +97,11 @@ pub rounding-small : (s : ℕ) → s ≤ 12 → natAbs (rounding s) ≤ 2 ^ 44
 unfolding rounding
 rounding-small zero h = lit≤ tt
 rounding-small (suc s) h = omega (arith, power-small s h)
+
+pub rounding-slight : (s : ℕ) → s ≤ 12 → natAbs (rounding s) ≤ 2 ^ 12
+unfolding rounding
+rounding-slight zero h = lit≤ tt
+rounding-slight (suc s) h = omega (arith, power-small s h)
 
 pub rounding-back : (s : ℕ) (z : ℤ) → s ≤ 12 → z ≡ rounding s → toZ w64 (ofZ w64 z) ≡ rounding s
 rounding-back s z h e = rw e (back w64 (rounding s) (omega (arith, mag-size (rounding s), rounding-small s h)))

@@ -4,6 +4,7 @@ use Prim.Native.Nat.{ℕ, _+_, _^_, _≤_, _<_}
 use mathlib.Core.Bool.{Bool, true, false, cond}
 use lib.IntN.{pos, _-ℤ_, natAbs}
 use lib.ListN.{getD, take}
+use Rattle.lines.specs.Buffers.{sizeSum}
 use Rattle.lifting.specs.Lifting.{Step, StepType, type1, type2, type3, type4}
 use Rattle.lifting.specs.declared.filters.LiftingStep.{LiftingStep}
 
@@ -24,9 +25,10 @@ stepOf r =
       scale = r .scale;
     }
 
--- The sizes that keep a step's sums within 64 bits and its reads within a line buffer.
+-- The sizes that keep a step's sums within 64 bits, over small numbers within 32, and its reads within a line buffer.
 pub record Sane (r : LiftingStep) : Type 0 where
   pub few-taps : r .count ≤ 8
   pub near : r .lead + r .count ≤ 9
   pub small-scale : r .scale ≤ 12
   pub small-taps : (t : ℕ) → t < 8 → natAbs (getD (r .taps) t (pos 0)) ≤ 2 ^ 13
+  pub small-gain : sizeSum (r .taps) (r .count) ≤ 2 ^ 14

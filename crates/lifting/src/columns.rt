@@ -7,6 +7,7 @@ ghost use lib.ListN.{length, getD};
 ghost use Rattle.base.specs.Every.{allBelow};
 ghost use Rattle.base.specs.Fill.{fill};
 ghost use Rattle.base.specs.Range.{fits32};
+ghost use Rattle.lines.specs.Buffers.{SmallAt};
 ghost use Rattle.lifting.specs.Lifting.{lift};
 ghost use Rattle.lifting.specs.Filters.{filterOf};
 ghost use Rattle.lifting.specs.Passes.{columns, run, runAll, newFit, allNewFit};
@@ -17,6 +18,9 @@ use crate::filters::LiftingStep;
 use crate::filters::rounding_of;
 use crate::filters::step_at;
 use crate::filters::step_count;
+use lines::small::is_small;
+use lines::small::lift_small;
+use lines::small::sum_small;
 use lines::sums::lift_line;
 use lines::sums::sum_taps;
 
@@ -31,7 +35,7 @@ pub struct Frame {
 // no use.
 pub fn filter_columns(
     work: &mut [i32],
-    sums: &mut [i64; 4096],
+    sums: &mut [i32; 4096],
     frame: Frame,
     wavelet: usize,
 ) -> bool
@@ -51,16 +55,17 @@ pub fn filter_columns(
     true
 }
 
-// Runs one step on every column of the picture.
-fn lift_columns(work: &mut [i32], sums: &mut [i64; 4096], frame: Frame, step: LiftingStep) -> bool
+// Runs one step on every column of the picture: in 32 bits where all its numbers are small.
+fn lift_columns(work: &mut [i32], sums: &mut [i32; 4096], frame: Frame, step: LiftingStep) -> bool
     requires { ⌜ Placed frame (now work) × Sane step ⌝ }
     ensures told { λ r. ⌜ r ≡ newFit (2 * frame .«band_rows») (2 * frame .«band_columns») (columns (stepOf step)) (run (2 * frame .«band_rows») (2 * frame .«band_columns») (columns (stepOf step)) (pictureOf (frame .stride) (now (work .entry)))) ⌝ }
     ensures done { λ r. ⌜ (r ≡ true → Agree (2 * frame .«band_rows») (2 * frame .«band_columns») (pictureOf (frame .stride) (now (work .exit))) (run (2 * frame .«band_rows») (2 * frame .«band_columns») (columns (stepOf step)) (pictureOf (frame .stride) (now (work .entry))))) ⌝ }
 {
+    let small = is_picture_small(work, frame);
     let pairs = frame.band_rows;
     let mut k = 0;
     while k < pairs {
-        if !lift_row(work, sums, frame, k, step) {
+        if !lift_row(work, sums, frame, k, step, small) {
             return false;
         }
         k += 1;
@@ -68,15 +73,36 @@ fn lift_columns(work: &mut [i32], sums: &mut [i64; 4096], frame: Frame, step: Li
     true
 }
 
-// Runs one step on one element of every column: the row of pair k that the step changes.
+// Whether the numbers of the picture are small.
+fn is_picture_small(work: &[i32], frame: Frame) -> bool
+    requires { ⌜ Placed frame (now work) ⌝ }
+    ensures { λ r. ⌜ (r ≡ true → (row : ℕ) → row < 2 * frame .«band_rows» → SmallAt (now (work .entry)) (row * frame .stride) (2 * frame .«band_columns»)) ⌝ }
+{
+    let width = 2 * frame.band_columns;
+    let stride = frame.stride;
+    let height = 2 * frame.band_rows;
+    let mut row = 0;
+    while row < height {
+        if !is_small(work, row * stride, width) {
+            return false;
+        }
+        row += 1;
+    }
+    true
+}
+
+// Runs one step on one element of every column: the row of pair k that the step changes. In 32 bits where that row and those that are read
+// are said to be small.
 fn lift_row(
     work: &mut [i32],
-    sums: &mut [i64; 4096],
+    sums: &mut [i32; 4096],
     frame: Frame,
     k: usize,
     step: LiftingStep,
+    small: bool,
 ) -> bool
     requires { ⌜ Placed frame (now work) × Sane step × (k < frame .«band_rows») ⌝ }
+    requires { ⌜ (small ≡ true → ((s : ℕ) → SmallAt (now work) (sourceRow (step .even) (frame .«band_rows») s * frame .stride) (2 * frame .«band_columns»)) × SmallAt (now work) (targetRow (step .even) k * frame .stride) (2 * frame .«band_columns»)) ⌝ }
     ensures told { λ r. ⌜ r ≡ allBelow (2 * frame .«band_columns») (λ c. fits32 (lift (stepOf step) (2 * frame .«band_rows») (λ r. pictureOf (frame .stride) (now (work .entry)) r c) (targetRow (step .even) k))) ⌝ }
     ensures done { λ r. ⌜ (r ≡ true → now (work .exit) ≡ fill (now (work .entry)) (targetRow (step .even) k * frame .stride) (2 * frame .«band_columns») (λ c. lift (stepOf step) (2 * frame .«band_rows») (λ r. pictureOf (frame .stride) (now (work .entry)) r c) (targetRow (step .even) k))) ⌝ }
 {
@@ -84,9 +110,15 @@ fn lift_row(
     let places = row_places(frame, step.even, k + step.lead);
     let taps = step.taps;
     let round = rounding_of(step.scale);
-    sum_taps(sums, work, width, &taps, &places, step.count, round);
     let target = target_row(step.even, k) * frame.stride;
-    lift_line(work, target, sums, width, step.scale, step.adds)
+    if small {
+        sum_small(sums, work, width, &taps, &places, step.count, round);
+        lift_small(work, target, sums, width, step.scale, step.adds);
+        return true;
+    }
+    let mut exact = [0i64; 4096];
+    sum_taps(&mut exact, work, width, &taps, &places, step.count, round);
+    lift_line(work, target, &exact, width, step.scale, step.adds)
 }
 
 // The row of pair k that a step changes.

@@ -9,7 +9,7 @@ ghost use lib.ListN.{length, getD};
 ghost use Rattle.base.specs.Every.{allBelow};
 ghost use Rattle.base.specs.Fill.{fill};
 ghost use Rattle.base.specs.Range.{fits32};
-ghost use Rattle.lines.specs.Buffers.{heldEntry, woven, shifted};
+ghost use Rattle.lines.specs.Buffers.{SmallAt, heldEntry, woven, shifted};
 ghost use Rattle.lines.specs.Sums.{sumBelow, changed};
 ghost use Rattle.lifting.specs.Lifting.{lift, rounding};
 ghost use Rattle.lifting.specs.Filters.{filterOf};
@@ -26,6 +26,9 @@ use crate::filters::step_count;
 use base::plane;
 use lines::buffers::extend;
 use lines::buffers::weave;
+use lines::small::is_small;
+use lines::small::lift_small;
+use lines::small::sum_small;
 use lines::sums::lift_line;
 use lines::sums::sum_taps;
 
@@ -35,7 +38,7 @@ pub fn filter_rows(
     work: &mut [i32],
     low: &mut [i32; 2056],
     high: &mut [i32; 2056],
-    sums: &mut [i64; 4096],
+    sums: &mut [i32; 4096],
     frame: Frame,
     wavelet: usize,
 ) -> bool
@@ -63,7 +66,7 @@ fn filter_row(
     place: usize,
     low: &mut [i32; 2056],
     high: &mut [i32; 2056],
-    sums: &mut [i64; 4096],
+    sums: &mut [i32; 4096],
     half: usize,
     wavelet: usize,
 ) -> bool
@@ -85,7 +88,7 @@ fn filter_row(
 fn filter_halves(
     low: &mut [i32; 2056],
     high: &mut [i32; 2056],
-    sums: &mut [i64; 4096],
+    sums: &mut [i32; 4096],
     half: usize,
     wavelet: usize,
 ) -> bool
@@ -109,7 +112,7 @@ fn filter_halves(
 fn lift_halves(
     low: &mut [i32; 2056],
     high: &mut [i32; 2056],
-    sums: &mut [i64; 4096],
+    sums: &mut [i32; 4096],
     half: usize,
     step: LiftingStep,
 ) -> bool
@@ -124,11 +127,11 @@ fn lift_halves(
     }
 }
 
-// Lifts one half of a row by the other, whose ends are repeated first.
+// Lifts one half of a row by the other, whose ends are repeated first. In 32 bits where both are small.
 fn lift_half(
     target: &mut [i32; 2056],
     source: &mut [i32; 2056],
-    sums: &mut [i64; 4096],
+    sums: &mut [i32; 4096],
     half: usize,
     step: LiftingStep,
 ) -> bool
@@ -141,8 +144,25 @@ fn lift_half(
     let places = line_places(step.lead);
     let taps = step.taps;
     let round = rounding_of(step.scale);
-    sum_taps(sums, source, half, &taps, &places, step.count, round);
-    lift_line(target, 4, sums, half, step.scale, step.adds)
+    if are_small(target, source, half) {
+        sum_small(sums, source, half, &taps, &places, step.count, round);
+        lift_small(target, 4, sums, half, step.scale, step.adds);
+        return true;
+    }
+    let mut exact = [0i64; 4096];
+    sum_taps(&mut exact, source, half, &taps, &places, step.count, round);
+    lift_line(target, 4, &exact, half, step.scale, step.adds)
+}
+
+// Whether the numbers of a half are small, and those of the other with its repeated ends.
+fn are_small(target: &[i32; 2056], source: &[i32; 2056], half: usize) -> bool
+    requires { ⌜ half ≤ 2048 ⌝ }
+    ensures { λ r. ⌜ (r ≡ true → SmallAt (now (target .entry)) 4 half × SmallAt (now (source .entry)) 0 (half + 8)) ⌝ }
+{
+    if !is_small(target, 4, half) {
+        return false;
+    }
+    is_small(source, 0, half + 8)
 }
 
 // Where eight taps start in a line buffer, the first one at the lead.
