@@ -109,7 +109,7 @@ pub fn picture_entry(p: &Parameters, samples: &[i64], options: &EncodeOptions) -
 
 /// An entry of a picture with a slope, a sharp edge of a height and some noise, its layout and its
 /// quantiser indices at random.
-fn random_picture(random: &mut Random, p: &Parameters, height_of_edge: i64) -> Entry {
+pub fn random_picture(random: &mut Random, p: &Parameters, height_of_edge: i64) -> Entry {
     let edge = random.range(0, i64::from(p.width) - 1);
     let lean = random.range(-2, 2);
     let mut samples = Vec::new();

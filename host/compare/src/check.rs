@@ -1,0 +1,242 @@
+//! The three jobs in the proved library and in the reference.
+
+use crate::case::Case;
+use crate::guarded::{Entry, Guarded};
+use crate::parameters::proved_parameters;
+use reference::random::Random;
+use reference::{Answer, Parameters};
+use std::fmt;
+
+/// A public job.
+#[derive(Clone, Copy, Debug, PartialEq, Eq)]
+pub enum Job {
+    Unpack,
+    Synthesise,
+    Decode,
+}
+
+impl Job {
+    /// All three, in the order of [`Answers`].
+    pub const ALL: [Job; 3] = [Job::Unpack, Job::Synthesise, Job::Decode];
+
+    /// Its name.
+    pub fn name(self) -> &'static str {
+        match self {
+            Job::Unpack => "unpack",
+            Job::Synthesise => "synthesise",
+            Job::Decode => "decode",
+        }
+    }
+
+    /// Whether it can give a status (document 01, "Refusal numbers").
+    pub fn gives(self, status: u32) -> bool {
+        match self {
+            Job::Unpack => matches!(status, 0 | 1 | 2 | 4 | 5 | 6..=9),
+            Job::Synthesise => matches!(status, 0 | 1 | 2 | 3 | 5 | 10),
+            Job::Decode => matches!(status, 0..=10),
+        }
+    }
+}
+
+/// The answers of unpack, synthesise and decode.
+pub type Answers = [Answer; 3];
+
+/// Where a decoder differs from the reference.
+#[derive(Clone, Debug)]
+pub struct Difference {
+    pub job: Job,
+    pub what: String,
+}
+
+impl fmt::Display for Difference {
+    fn fmt(&self, f: &mut fmt::Formatter) -> fmt::Result {
+        write!(f, "{}: {}", self.job.name(), self.what)
+    }
+}
+
+/// What a job is lent. Unpack takes the bytes and the coefficients, synthesise the planes and only
+/// reads the coefficients, decode everything.
+pub struct Lent<'a> {
+    pub bytes: &'a [u8],
+    pub coefficients: &'a mut [i32],
+    pub work: &'a mut [i32],
+    pub samples: &'a mut [i32],
+}
+
+/// A decoder: runs a job.
+pub type Decoder = fn(&Parameters, Job, Lent) -> Answer;
+
+/// The proved library.
+pub fn proved(p: &Parameters, job: Job, lent: Lent) -> Answer {
+    let p = &proved_parameters(p);
+    let result = match job {
+        Job::Unpack => kafsillun::unpack(p, lent.bytes, lent.coefficients),
+        Job::Synthesise => {
+            kafsillun::synthesise(p, lent.coefficients, lent.work, lent.samples).map(|()| 0)
+        }
+        Job::Decode => kafsillun::decode(p, lent.bytes, lent.coefficients, lent.work, lent.samples),
+    };
+    match result {
+        Ok(used) => Answer::accepted(used as u64),
+        Err(error) => Answer::refused(error.number(), error.place() as u64),
+    }
+}
+
+/// The reference decoder.
+pub fn reference(p: &Parameters, job: Job, lent: Lent) -> Answer {
+    match job {
+        Job::Unpack => reference::unpack(p, lent.bytes, lent.coefficients),
+        Job::Synthesise => reference::synthesise(p, lent.coefficients, lent.work, lent.samples),
+        Job::Decode => reference::decode(p, lent.bytes, lent.coefficients, lent.work, lent.samples),
+    }
+}
+
+/// The memory that a job is lent, guard zones included.
+#[derive(Clone, Debug, PartialEq, Eq)]
+struct Memory {
+    bytes: Guarded<u8>,
+    coefficients: Guarded<i32>,
+    work: Guarded<i32>,
+    samples: Guarded<i32>,
+}
+
+impl Memory {
+    /// The bytes of a case, and rubbish in every plane and every guard zone; for synthesise, the case's
+    /// coefficients.
+    fn new(case: &Case, job: Job, random: &mut Random) -> Memory {
+        Memory {
+            bytes: Guarded::holding(random, &case.bytes),
+            coefficients: match job {
+                Job::Synthesise => Guarded::holding(random, &case.coefficients),
+                _ => Guarded::rubbish(random, case.coefficients.len()),
+            },
+            work: Guarded::rubbish(random, case.work_length),
+            samples: Guarded::rubbish(random, case.samples_length),
+        }
+    }
+
+    /// The parts to lend.
+    fn lend(&mut self) -> Lent<'_> {
+        Lent {
+            bytes: self.bytes.part(),
+            coefficients: self.coefficients.part_mut(),
+            work: self.work.part_mut(),
+            samples: self.samples.part_mut(),
+        }
+    }
+
+    /// The first difference from the reference's memory.
+    fn difference(&self, reference: &Memory) -> Option<String> {
+        let planes = [
+            ("coefficients", &self.coefficients, &reference.coefficients),
+            ("work", &self.work, &reference.work),
+            ("samples", &self.samples, &reference.samples),
+        ];
+        planes
+            .iter()
+            .find_map(|(name, ours, theirs)| difference_in(name, ours, theirs))
+            .or_else(|| difference_in("bytes", &self.bytes, &reference.bytes))
+    }
+}
+
+/// The first difference between a plane of a decoder and the reference's.
+fn difference_in<T: Entry + PartialEq + fmt::Display>(
+    name: &str,
+    ours: &Guarded<T>,
+    theirs: &Guarded<T>,
+) -> Option<String> {
+    let (place, our_value, their_value) = ours.difference(theirs)?;
+    let length = ours.part().len();
+    let zone = if (0..length as isize).contains(&place) {
+        ""
+    } else {
+        ", which lies in a guard zone,"
+    };
+    Some(format!(
+        "{name}, entry {place} of {length}{zone} is {our_value}, in the reference {their_value}"
+    ))
+}
+
+/// Runs one job in a decoder and the reference, over the same rubbish: the answer that both gave.
+fn check_job(
+    case: &Case,
+    decoder: Decoder,
+    job: Job,
+    random: &mut Random,
+) -> Result<Answer, Difference> {
+    let p = &case.parameters;
+    let mut ours = Memory::new(case, job, random);
+    let mut theirs = ours.clone();
+    let our_answer = decoder(p, job, ours.lend());
+    let their_answer = reference(p, job, theirs.lend());
+    if our_answer != their_answer {
+        let what = format!(
+            "the answer is status {} place {}, the reference's status {} place {}",
+            our_answer.status, our_answer.place, their_answer.status, their_answer.place
+        );
+        return Err(Difference { job, what });
+    }
+    match ours.difference(&theirs) {
+        Some(what) => Err(Difference { job, what }),
+        None => Ok(our_answer),
+    }
+}
+
+/// A generator of rubbish for a case.
+fn rubbish_of(case: &Case) -> Random {
+    Random::new(!case.seed)
+}
+
+/// Runs the three jobs in a decoder and the reference, and compares the answers, every plane, and the
+/// memory around them: the answers that both gave.
+pub fn check(case: &Case, decoder: Decoder) -> Result<Answers, Difference> {
+    let mut random = rubbish_of(case);
+    Ok([
+        check_job(case, decoder, Job::Unpack, &mut random)?,
+        check_job(case, decoder, Job::Synthesise, &mut random)?,
+        check_job(case, decoder, Job::Decode, &mut random)?,
+    ])
+}
+
+/// What a job gave: its answer, and each plane that it was lent to write.
+#[derive(Clone, Debug, PartialEq, Eq)]
+pub struct Outcome {
+    pub answer: Answer,
+    pub planes: Vec<(&'static str, Vec<i32>)>,
+}
+
+impl fmt::Display for Outcome {
+    fn fmt(&self, f: &mut fmt::Formatter) -> fmt::Result {
+        let Answer { status, place } = self.answer;
+        writeln!(f, "status {status} place {place}")?;
+        for (name, plane) in &self.planes {
+            write!(f, "{name}:")?;
+            for number in plane {
+                write!(f, " {number}")?;
+            }
+            writeln!(f)?;
+        }
+        Ok(())
+    }
+}
+
+/// What each job of a decoder gives.
+pub fn results(case: &Case, decoder: Decoder) -> [Outcome; 3] {
+    let mut random = rubbish_of(case);
+    Job::ALL.map(|job| {
+        let mut memory = Memory::new(case, job, &mut random);
+        let answer = decoder(&case.parameters, job, memory.lend());
+        let planes = [
+            ("coefficients", &memory.coefficients, job != Job::Synthesise),
+            ("work", &memory.work, job != Job::Unpack),
+            ("samples", &memory.samples, job != Job::Unpack),
+        ];
+        let written = planes.into_iter().filter(|(_, _, is_lent)| *is_lent);
+        Outcome {
+            answer,
+            planes: written
+                .map(|(name, plane, _)| (name, plane.part().to_vec()))
+                .collect(),
+        }
+    })
+}

@@ -1,0 +1,218 @@
+//! The command: compares a great many components, or makes round trips.
+
+use compare::round_trip::{RoundTrip, RoundTrips};
+use compare::work::{Failure, Work, ENOUGH_FAILURES};
+use compare::{check, proved, reference, results, Case, Job, Statistics};
+use std::process::ExitCode;
+use std::time::Instant;
+
+const USAGE: &str = "usage: compare COUNT [SEED] [--threads N]
+       compare --seed SEED --count COUNT [--threads N]
+       compare --round-trips COUNT [SEED] [--threads N]
+
+Compares the proved library with the independent decoder on COUNT components made
+from the seeds SEED, SEED + 1 and on: unpack, synthesise and decode, status, place,
+every entry of every plane, and the memory around them. SEED is 1 where none is
+given. A COUNT of 1 prints the component in full, as jobs that `reference jobs`
+answers.
+
+With --round-trips the independent decoder analyses COUNT planes, and the proved
+library must give each back whose analysis fits 32 bits.
+
+Exit status: 0 no difference; 1 a difference, or an answer or a place of it that
+fewer than one in 1000 components gave (one in 500 round trips), too rare to mean
+anything; 2 a wrong command line.
+";
+
+/// What the command line asks for.
+struct Request {
+    round_trips: bool,
+    work: Work,
+}
+
+/// Reads the command line, or says what is wrong with it.
+fn read_request(words: &[String]) -> Result<Request, String> {
+    let mut round_trips = false;
+    let (mut count, mut seed, mut threads) = (None, None, None);
+    let mut words = words.iter();
+    while let Some(word) = words.next() {
+        let (slot, value) = match word.as_str() {
+            "--round-trips" => {
+                round_trips = true;
+                continue;
+            }
+            "--count" => (&mut count, words.next()),
+            "--seed" => (&mut seed, words.next()),
+            "--threads" => (&mut threads, words.next()),
+            _ if word.starts_with('-') => return Err(format!("no such option: {word}")),
+            _ if count.is_none() => (&mut count, Some(word)),
+            _ => (&mut seed, Some(word)),
+        };
+        let value = value.ok_or(format!("{word} needs a number"))?;
+        let number: u64 = value
+            .parse()
+            .map_err(|_| format!("not a number below 2^64: {value}"))?;
+        if slot.replace(number).is_some() {
+            return Err(format!("one number too many: {value}"));
+        }
+    }
+    let count = count.ok_or("COUNT is missing")?;
+    let threads = threads.unwrap_or(1);
+    if count == 0 || threads == 0 || threads > 64 {
+        return Err("COUNT is from 1 on, N from 1 to 64".to_string());
+    }
+    Ok(Request {
+        round_trips,
+        work: Work {
+            first: seed.unwrap_or(1),
+            count,
+            threads: threads as usize,
+        },
+    })
+}
+
+/// Runs the command.
+fn main() -> ExitCode {
+    // A word that isn't text is no number and no option.
+    let words: Vec<String> = std::env::args_os()
+        .skip(1)
+        .map(|word| word.to_string_lossy().into_owned())
+        .collect();
+    if words.iter().any(|word| word == "--help" || word == "-h") {
+        print!("{USAGE}");
+        return ExitCode::SUCCESS;
+    }
+    let request = match read_request(&words) {
+        Ok(request) => request,
+        Err(error) => {
+            eprint!("compare: {error}\n\n{USAGE}");
+            return ExitCode::from(2);
+        }
+    };
+    let Request { round_trips, work } = request;
+    let print_one = work.count == 1;
+    let passed = if round_trips {
+        if print_one {
+            print_round_trip(work.first);
+        }
+        make_round_trips(&work)
+    } else {
+        if print_one {
+            print_case(&Case::from_seed(work.first));
+        }
+        compare_components(&work)
+    };
+    if passed {
+        ExitCode::SUCCESS
+    } else {
+        ExitCode::from(1)
+    }
+}
+
+/// Compares components and prints what they reached; answers whether all is well.
+fn compare_components(work: &Work) -> bool {
+    let start = Instant::now();
+    let (statistics, failures) = work.run(true, |seed, statistics: &mut Statistics| {
+        let answers = check(&Case::from_seed(seed), proved).map_err(|error| error.to_string())?;
+        statistics.add(&answers);
+        Ok(())
+    });
+    if work.count > 1 {
+        print!("{statistics}");
+    }
+    report(
+        work,
+        "components",
+        start,
+        Statistics::ONE_IN,
+        &failures,
+        &statistics.too_rare(),
+    )
+}
+
+/// Makes round trips and prints what they reached; answers whether all is well.
+fn make_round_trips(work: &Work) -> bool {
+    let start = Instant::now();
+    let (trips, failures) = work.run(true, |seed, trips: &mut RoundTrips| {
+        let trip = RoundTrip::from_seed(seed);
+        let came_back = trip.run()?;
+        trips.add(&trip, came_back);
+        Ok(())
+    });
+    if work.count > 1 {
+        print!("{trips}");
+    }
+    report(
+        work,
+        "round trips",
+        start,
+        RoundTrips::ONE_IN,
+        &failures,
+        &trips.too_rare(),
+    )
+}
+
+/// Prints the failures and what was too rare, then a line that sums up; answers whether all is well.
+fn report(
+    work: &Work,
+    what: &str,
+    start: Instant,
+    one_in: u64,
+    failures: &[Failure],
+    too_rare: &[String],
+) -> bool {
+    for failure in failures {
+        println!("DIFFERENCE at seed {}: {}", failure.seed, failure.what);
+    }
+    for line in too_rare {
+        println!("TOO RARE (below one in {one_in}): {line}");
+    }
+    let verdict = if failures.len() >= ENOUGH_FAILURES {
+        format!("stopped after {} differences", failures.len())
+    } else if !failures.is_empty() {
+        format!("{} differences", failures.len())
+    } else if !too_rare.is_empty() {
+        "no difference, but some answers are too rare to mean anything".to_string()
+    } else {
+        "no difference".to_string()
+    };
+    let seconds = start.elapsed().as_secs_f64();
+    let Work { first, count, .. } = work;
+    if *count == 1 {
+        println!("seed {first}: {verdict}");
+    } else {
+        let last = first.wrapping_add(count - 1);
+        println!("{count} {what}, seeds {first} to {last}: {verdict} ({seconds:.1} s)");
+    }
+    failures.is_empty() && too_rare.is_empty()
+}
+
+/// Prints a component in full: as jobs of the reference's command, and what each decoder makes of them.
+fn print_case(case: &Case) {
+    println!("seed {}, kind {:?}", case.seed, case.kind);
+    print!("{}", case.jobs());
+    let ours = results(case, proved).map(|result| result.to_string());
+    let theirs = results(case, reference).map(|result| result.to_string());
+    for ((job, ours), theirs) in Job::ALL.iter().zip(ours).zip(theirs) {
+        print!("{} in the proved library: {ours}", job.name());
+        if ours == theirs {
+            println!("{} in the reference: the same", job.name());
+        } else {
+            print!("{} in the reference: {theirs}", job.name());
+        }
+    }
+}
+
+/// Prints a round trip in full: as a job of the reference's command.
+fn print_round_trip(seed: u64) {
+    let RoundTrip {
+        parameters: p,
+        plane,
+    } = RoundTrip::from_seed(seed);
+    let numbers: String = plane.iter().map(|number| format!(" {number}")).collect();
+    println!("seed {seed}");
+    println!(
+        "analyse {} {} {} {}{numbers}",
+        p.width, p.height, p.depth, p.wavelet
+    );
+}

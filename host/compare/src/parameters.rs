@@ -1,0 +1,95 @@
+//! Parameters at random, in range and out of range.
+
+use reference::params::subband;
+use reference::params::Orientation::{HL, LL};
+use reference::pieces;
+use reference::random::Random;
+use reference::Parameters;
+
+/// The parameters as the proved library takes them.
+pub fn proved_parameters(p: &Parameters) -> kafsillun::Parameters {
+    kafsillun::Parameters {
+        width: p.width,
+        height: p.height,
+        depth: p.depth,
+        wavelet: p.wavelet,
+        intra: p.intra,
+        codeblocks_across: p.codeblocks_across,
+        codeblocks_down: p.codeblocks_down,
+    }
+}
+
+/// Parameters in range with a depth from a least one on: most sizes small, some up to 70, and now and
+/// then the longest row or column.
+pub fn random_parameters(random: &mut Random, least_depth: u32) -> Parameters {
+    let depth = random.range(i64::from(least_depth), 4) as u32;
+    let wavelet = random.range(0, 6) as u32;
+    let intra = random.flag();
+    if random.range(0, 499) == 0 {
+        let (width, height) = random.pick(&[(4096, 1), (4095, 2), (1, 4096), (2, 4095)]);
+        // A greater depth would pad them to many rows or columns.
+        let depth = depth.min(least_depth.max(1));
+        return pieces::parameters(width, height, depth, wavelet, intra);
+    }
+    let (width, height) = (random_size(random), random_size(random));
+    let mut p = pieces::parameters(width, height, depth, wavelet, intra);
+    for level in 0..=depth {
+        let band = subband(&p, level, if level == 0 { LL } else { HL });
+        p.codeblocks_across[level as usize] = random_count(random, band.width);
+        p.codeblocks_down[level as usize] = random_count(random, band.height);
+    }
+    p
+}
+
+/// A width or height from 1 to 70.
+fn random_size(random: &mut Random) -> u32 {
+    let most = match random.range(0, 99) {
+        0..=39 => 8,
+        40..=69 => 20,
+        70..=89 => 40,
+        _ => 70,
+    };
+    random.range(1, most) as u32
+}
+
+/// A codeblock count for subbands of a size: most often few, sometimes more than the size, rarely any.
+fn random_count(random: &mut Random, size: usize) -> u32 {
+    let most = match random.range(0, 39) {
+        0..=19 => 1,
+        20..=31 => 4,
+        32..=38 => (2 * size as i64 + 1).min(255),
+        _ => 255,
+    };
+    random.range(1, most) as u32
+}
+
+/// Puts one or more parameters out of range; a count above the depth may be among them, which is not
+/// looked at.
+pub fn put_out_of_range(random: &mut Random, p: &mut Parameters) {
+    const WRONG_SIZES: [u32; 8] = [0, 0, 4097, 4098, 5000, 1 << 16, 1 << 31, u32::MAX];
+    const WRONG_COUNTS: [u32; 6] = [0, 0, 256, 257, 1 << 16, u32::MAX];
+    for _ in 0..random.pick(&[1, 1, 1, 1, 2, 3]) {
+        match random.range(0, 6) {
+            0 => p.width = random.pick(&WRONG_SIZES),
+            1 => p.height = random.pick(&WRONG_SIZES),
+            2 => p.depth = random.pick(&[5, 5, 6, 31, 32, 63, 64, 256, u32::MAX]),
+            3 => p.wavelet = random.pick(&[7, 7, 8, 255, 256, 1 << 16, u32::MAX]),
+            // A right number in the low bits alone.
+            4 => {
+                let high = random.pick(&[1 << 8, 1 << 16, 1 << 24, 1 << 31]);
+                let field = random.range(0, 3);
+                *[&mut p.width, &mut p.height, &mut p.depth, &mut p.wavelet][field as usize] |=
+                    high;
+            }
+            _ => {
+                let level = random.range(0, 4) as usize;
+                let counts = if random.flag() {
+                    &mut p.codeblocks_across
+                } else {
+                    &mut p.codeblocks_down
+                };
+                counts[level] = random.pick(&WRONG_COUNTS);
+            }
+        }
+    }
+}

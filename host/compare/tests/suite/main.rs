@@ -1,0 +1,8 @@
+//! The comparison's tests, in one program.
+
+mod agreement;
+mod command;
+mod fences;
+mod generator;
+mod threads;
+mod wrong_decoders;

@@ -1,0 +1,150 @@
+//! A safe interface to the proved decoder of Dirac wavelet pictures.
+//!
+//! The decoder works on one component at a time: core syntax with variable-length codes, one quantiser
+//! for each subband, skipped codeblocks, intra DC prediction, the inverse transform and the removal of
+//! padding. There are three jobs: [`unpack`] makes coefficients of bytes, [`synthesise`] makes samples
+//! of coefficients, [`decode`] does both.
+//!
+//! Data are planes of `i32` that the caller lends. A coefficient or work plane needs exactly
+//! [`Parameters::padded_area`] entries, a sample plane exactly [`Parameters::sample_area`]; what they
+//! hold before the call doesn't matter.
+//!
+//! ```
+//! use kafsillun::{decode, Parameters};
+//!
+//! # fn main() -> Result<(), kafsillun::Error> {
+//! let p = Parameters { depth: 1, wavelet: 3, intra: true, ..Parameters::new(2, 2) };
+//! let bytes = [0x30, 0x16, 0x30, 0x18, 0x30, 0x70, 0x30, 0x20];
+//! let mut coefficients = vec![0; p.padded_area()?];
+//! let mut work = vec![0; p.padded_area()?];
+//! let mut samples = vec![0; p.sample_area()?];
+//! let used = decode(&p, &bytes, &mut coefficients, &mut work, &mut samples)?;
+//! assert_eq!(used, 8);
+//! assert_eq!(coefficients, [10, 4, -2, 1]);
+//! assert_eq!(samples, [9, 12, 7, 11]);
+//! # Ok(())
+//! # }
+//! ```
+//!
+//! # Refusals
+//!
+//! A job refuses whatever it can't decode, with an [`Error`] that has the number, the place and a
+//! message. What the planes hold afterwards is defined for every input:
+//!
+//! | Answer | Coefficients | Work | Samples |
+//! |---|---|---|---|
+//! | accepted | as unpacked | zeros | as synthesised |
+//! | refused 1 to 5 | unchanged | unchanged | unchanged |
+//! | refused 6 to 10 | zeros | zeros | zeros |
+//!
+//! This is about the planes a job may write: [`synthesise`] never changes the coefficients.
+//!
+//! The library has no state, so threads may run jobs at once. A job needs some 52 KiB of stack.
+
+#![warn(missing_docs)]
+
+mod error;
+mod foreign;
+mod parameters;
+
+pub use error::{Error, Refusal};
+pub use parameters::Parameters;
+
+/// Unpacks bytes to coefficients and gives the number of bytes used; those after them are not looked
+/// at. Refuses with 1, 2, 4, 5 or 6 to 9.
+///
+/// ```
+/// use kafsillun::{unpack, Parameters};
+///
+/// // One subband: 2 bytes of data, quantiser index 4, then the numbers 1, -2 and 3.
+/// let mut coefficients = [0; 3];
+/// let bytes = [0b011_00011, 0b0010_0111, 0b000010_00, 0xFF];
+/// assert_eq!(unpack(&Parameters::new(3, 1), &bytes, &mut coefficients), Ok(3));
+/// assert_eq!(coefficients, [3, -5, 7]);
+/// ```
+pub fn unpack(p: &Parameters, bytes: &[u8], coefficients: &mut [i32]) -> Result<usize, Error> {
+    // SAFETY: each pointer and length are of one slice, and the slices are apart.
+    bytes_used(unsafe {
+        foreign::kafsillun_unpack(
+            p.to_foreign(),
+            bytes.as_ptr(),
+            bytes.len(),
+            coefficients.as_mut_ptr(),
+            coefficients.len(),
+        )
+    })
+}
+
+/// Synthesises samples from coefficients, and leaves zeros in the work plane. Refuses with 1, 2, 3, 5
+/// or 10.
+///
+/// ```
+/// use kafsillun::{synthesise, Parameters};
+///
+/// let p = Parameters { depth: 1, wavelet: 3, ..Parameters::new(2, 2) };
+/// let (mut work, mut samples) = ([0; 4], [0; 4]);
+/// assert_eq!(synthesise(&p, &[10, 4, -2, 1], &mut work, &mut samples), Ok(()));
+/// assert_eq!(samples, [9, 12, 7, 11]);
+/// ```
+pub fn synthesise(
+    p: &Parameters,
+    coefficients: &[i32],
+    work: &mut [i32],
+    samples: &mut [i32],
+) -> Result<(), Error> {
+    // SAFETY: each pointer and length are of one slice, and the slices are apart.
+    let used = bytes_used(unsafe {
+        foreign::kafsillun_synthesise(
+            p.to_foreign(),
+            coefficients.as_ptr(),
+            coefficients.len(),
+            work.as_mut_ptr(),
+            work.len(),
+            samples.as_mut_ptr(),
+            samples.len(),
+        )
+    })?;
+    assert_eq!(used, 0, "synthesise reads no bytes");
+    Ok(())
+}
+
+/// Unpacks bytes to coefficients, synthesises samples from them, and gives the number of bytes used;
+/// those after them are not looked at. Leaves zeros in the work plane. Refuses with 1 to 10.
+///
+/// The crate's documentation has an example.
+pub fn decode(
+    p: &Parameters,
+    bytes: &[u8],
+    coefficients: &mut [i32],
+    work: &mut [i32],
+    samples: &mut [i32],
+) -> Result<usize, Error> {
+    // SAFETY: each pointer and length are of one slice, and the slices are apart.
+    bytes_used(unsafe {
+        foreign::kafsillun_decode(
+            p.to_foreign(),
+            bytes.as_ptr(),
+            bytes.len(),
+            coefficients.as_mut_ptr(),
+            coefficients.len(),
+            work.as_mut_ptr(),
+            work.len(),
+            samples.as_mut_ptr(),
+            samples.len(),
+        )
+    })
+}
+
+/// An acceptance's bytes used, or the refusal.
+fn bytes_used(answer: foreign::Answer) -> Result<usize, Error> {
+    if answer.status == 0 {
+        return Ok(answer.place);
+    }
+    match Refusal::from_number(answer.status) {
+        Some(refusal) => Err(Error::new(refusal, answer.place)),
+        None => panic!(
+            "the library gave a status that it hasn't: {}",
+            answer.status
+        ),
+    }
+}
