@@ -19,7 +19,8 @@ use Rattle.lifting.specs.Planes.{pictureOf}
 use Rattle.lifting.specs.Table.{stepOf}
 use Rattle.lifting.specs.declared.columns.Frame.{Frame}
 use Rattle.lifting.specs.declared.filters.LiftingStep.{LiftingStep}
-use Rattle.lifting.proofs.Taps.{sum-same, lift-at-target}
+use Rattle.lines.proofs.SumLaws.{sum-same}
+use Rattle.lifting.proofs.Taps.{lift-at-target}
 
 -- the rows that a step changes and reads are rows of the picture
 pub target-below : (even : Bool) (k b : ℕ) → k < b → targetRow even k < 2 * b

@@ -25,7 +25,8 @@ use Rattle.lifting.specs.Layout.{targetRow, sourceRow, halfPlace}
 use Rattle.lifting.specs.Table.{typeOf, stepOf, Sane}
 use Rattle.lifting.specs.declared.filters.LiftingStep.{LiftingStep}
 use Rattle.lifting.proofs.Lifts.{lift-keeps}
-use Rattle.lifting.proofs.Taps.{sum-same, type-says, lift-at-target}
+use Rattle.lines.proofs.SumLaws.{sum-same}
+use Rattle.lifting.proofs.Taps.{type-says, lift-at-target}
 use Rattle.lifting.proofs.RowLaws.{all-pairs}
 
 -- an even place, and an odd one

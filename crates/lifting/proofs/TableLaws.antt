@@ -1,22 +1,23 @@
 -- What ties the table of filters to document 01's, entry by entry, and the rounding of a scale.
 -- Assumes nothing.
 use mathlib.Core.Path.{_≡_, refl, ap}
-use mathlib.Core.Bool.{Bool, true, _&&_}
-use Prim.Native.Nat.{ℕ, zero, suc, _+_, _-_, _*_, _%_, _^_, _≤_, _<_}
+use mathlib.Core.Logic.{_≢_}
+use mathlib.Core.Bool.{Bool, true, _&&_, _||_}
+use Prim.Native.Nat.{ℕ, zero, suc, _+_, _-_, _*_, _/_, _%_, _^_, _≤_, _<_}
 use native.Mathlib.Nat.{one-mul, mod-eq-of-lt}
 use native.Mathlib.Omega.{arith}
-use lib.Dec.{leb, lit≤}
-use lib.IntN.{ℤ, pos, natAbs}
+use lib.Dec.{leb, eqb, lit≤}
+use lib.IntN.{ℤ, pos, negsuc, natAbs}
 use lib.ListN.{getD}
 use lib.Pow.{pow-lt}
 use mir.Syntax.{w64}
 use mir.Val.{toZ, ofZ}
-use borrow.Author.Tests.{leb-true}
+use borrow.Author.Tests.{leb-true, eqb-true, ne-eqb}
+use lib.Signed.{mag}
 use Rattle.base.specs.Every.{allBelow}
 use Rattle.base.proofs.Everys.{and-left, and-right, all-at}
 use Rattle.base.proofs.Magnitudes.{mag-size}
 use Rattle.base.proofs.Ranges.{back}
-use Rattle.lines.specs.Buffers.{sizeSum}
 use Rattle.lifting.specs.Lifting.{Step, rounding}
 use Rattle.lifting.specs.Filters.{filterOf}
 use Rattle.lifting.specs.Table.{stepOf, Sane}
@@ -45,28 +46,59 @@ seven (suc (suc (suc n))) h p0 p1 p2 p3 p4 p5 p6 =
     four n (omega arith) (λ e. p3 (ap (λ m. suc (suc (suc m))) e)) (λ e. p4 (ap (λ m. suc (suc (suc m))) e))
     (λ e. p5 (ap (λ m. suc (suc (suc m))) e)) (λ e. p6 (ap (λ m. suc (suc (suc m))) e))
 
+-- whether two whole numbers are the same: a number and its distances from 0 and from −1/2
+abbrev sameInt : ℤ → ℤ → Bool
+sameInt a b = eqb (natAbs a) (natAbs b) && eqb (mag a) (mag b)
+
+same-int : (a b : ℤ) → natAbs a ≡ natAbs b → mag a ≡ mag b → a ≡ b
+same-int (pos m) (pos n) h k = ap pos h
+same-int (pos m) (negsuc n) h k = absurd (omega arith)
+same-int (negsuc m) (pos n) h k = absurd (omega arith)
+same-int (negsuc m) (negsuc n) h k = ap negsuc k
+
+-- an even number, or 1
+even-else : (n : ℕ) → eqb n 1 || eqb n (2 * (n / 2)) ≡ true → n ≢ 1 → n ≡ 2 * (n / 2)
+even-else n e other = eqb-true n (2 * (n / 2)) (rw (ne-eqb n 1 other) at e)
+
 -- The test of a step's sizes.
 abbrev pub saneTest : LiftingStep → Bool
 saneTest r =
     (leb (r .count) 8 && leb (r .lead + r .count) 9)
     && (leb (r .scale) 12 && allBelow 8 (λ t. leb (natAbs (getD (r .taps) t (pos 0))) (2 ^ 13)))
-    && leb (sizeSum (r .taps) (r .count)) (2 ^ 14)
+    && (leb 1 (r .count) && (eqb (r .count) 1 || eqb (r .count) (2 * (r .count / 2))))
+    && allBelow (r .count) (λ t. sameInt (getD (r .taps) (r .count - 1 - t) (pos 0)) (getD (r .taps) t (pos 0)))
+    && allBelow (r .count) (λ t. leb (r .count * natAbs (getD (r .taps) t (pos 0))) (2 ^ 14))
 
 -- what it says
 sane : (r : LiftingStep) → saneTest r ≡ true → Sane r
 sane r e =
-    let ends = leb (r .count) 8 && leb (r .lead + r .count) 9 in
+    let count = r .count in
+    let ends = leb count 8 && leb (r .lead + count) 9 in
     let sizes = leb (r .scale) 12 && allBelow 8 (λ t. leb (natAbs (getD (r .taps) t (pos 0))) (2 ^ 13)) in
-    let gain = leb (sizeSum (r .taps) (r .count)) (2 ^ 14) in
-    let both = and-left (ends && sizes) gain e in
-    let front = and-left ends sizes both in
-    let rest = and-right ends sizes both in
+    let pairs = leb 1 count && (eqb count 1 || eqb count (2 * (count / 2))) in
+    let mirror : ℕ → Bool = λ t. sameInt (getD (r .taps) (count - 1 - t) (pos 0)) (getD (r .taps) t (pos 0)) in
+    let gain : ℕ → Bool = λ t. leb (count * natAbs (getD (r .taps) t (pos 0))) (2 ^ 14) in
+    let first = and-left (ends && sizes && pairs && allBelow count mirror) (allBelow count gain) e in
+    let second = and-left (ends && sizes && pairs) (allBelow count mirror) first in
+    let third = and-left (ends && sizes) pairs second in
+    let front = and-left ends sizes third in
+    let rest = and-right ends sizes third in
+    let paired = and-right (ends && sizes) pairs second in
     record {
-      few-taps = leb-true (r .count) 8 (and-left (leb (r .count) 8) _ front);
-      near = leb-true (r .lead + r .count) 9 (and-right (leb (r .count) 8) _ front);
+      few-taps = leb-true count 8 (and-left (leb count 8) _ front);
+      near = leb-true (r .lead + count) 9 (and-right (leb count 8) _ front);
       small-scale = leb-true (r .scale) 12 (and-left (leb (r .scale) 12) _ rest);
       small-taps = λ t h. leb-true _ (2 ^ 13) (all-at (λ t. leb (natAbs (getD (r .taps) t (pos 0))) (2 ^ 13)) 8 t (and-right (leb (r .scale) 12) _ rest) h);
-      small-gain = leb-true _ (2 ^ 14) (and-right (ends && sizes) gain e);
+      some-taps = leb-true 1 count (and-left (leb 1 count) _ paired);
+      symmetric = (
+        even-else count (and-right (leb 1 count) _ paired),
+        λ t h.
+            let both = all-at mirror count t (and-right (ends && sizes && pairs) (allBelow count mirror) first) h in
+            let a = getD (r .taps) (count - 1 - t) (pos 0) in
+            let b = getD (r .taps) t (pos 0) in
+            same-int a b (eqb-true _ _ (and-left (eqb (natAbs a) (natAbs b)) _ both)) (eqb-true _ _ (and-right (eqb (natAbs a) (natAbs b)) _ both)),
+      );
+      small-gain = λ t h. leb-true _ (2 ^ 14) (all-at gain count t (and-right (ends && sizes && pairs && allBelow count mirror) (allBelow count gain) e) h);
     }
 
 -- An entry of the table is step k of the filter of a wavelet index, and its sizes are in their bounds: how that is shown, and what it says.

@@ -12,6 +12,7 @@ use lib.Dec.{eqb}
 use lib.IntN.{ℤ, pos, negsuc, _+ℤ_, _-ℤ_, _*ℤ_, +ℤ-idr, +ℤ-assoc, +ℤ-comm, zero-*ℤ}
 use lib.ListN.{length, getD, take}
 use borrow.Author.Tests.{lt-ltb, le-ltb, eq-eqb}
+use Rattle.lines.proofs.SumLaws.{sum-same}
 use Rattle.lines.specs.Sums.{sumBelow, changed}
 use Rattle.lifting.specs.Lifting.{Line, changesEven, adds, clamp, readPlace, tapSum, rounding, update, changes, lift}
 use Rattle.lifting.specs.Table.{typeOf, stepOf}
@@ -23,12 +24,6 @@ pub sum-first : (f : ℕ → ℤ) (n : ℕ) → sumBelow f (suc n) ≡ f 0 +ℤ 
 unfolding sumBelow
 sum-first f zero = +ℤ-comm (pos 0) (f 0)
 sum-first f (suc n) = rw (sum-first f n) (+ℤ-assoc (f 0) (sumBelow (λ t. f (suc t)) n) (f (suc n)))
-
--- sums of the same numbers
-pub sum-same : (f g : ℕ → ℤ) (n : ℕ) → ((t : ℕ) → t < n → f t ≡ g t) → sumBelow f n ≡ sumBelow g n
-unfolding sumBelow
-sum-same f g zero same = refl
-sum-same f g (suc n) same = rw (sum-same f g n (λ t h. same t (omega arith)), same n (omega arith))
 
 -- a sum of zeros
 sum-zeros : (f : ℕ → ℤ) (n : ℕ) → ((t : ℕ) → f t ≡ pos 0) → sumBelow f n ≡ pos 0

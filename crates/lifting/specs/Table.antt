@@ -1,10 +1,10 @@
 -- The table of steps as the code holds it, and the step that each row of it stands for. The rows are the code's own form; the filters that
 -- they are tied to stand in Filters.antt.
-use Prim.Native.Nat.{ℕ, _+_, _^_, _≤_, _<_}
+use Prim.Native.Nat.{ℕ, _+_, _*_, _^_, _≤_, _<_}
 use mathlib.Core.Bool.{Bool, true, false, cond}
 use lib.IntN.{pos, _-ℤ_, natAbs}
 use lib.ListN.{getD, take}
-use Rattle.lines.specs.Buffers.{sizeSum}
+use Rattle.lines.specs.Buffers.{Symmetric}
 use Rattle.lifting.specs.Lifting.{Step, StepType, type1, type2, type3, type4}
 use Rattle.lifting.specs.declared.filters.LiftingStep.{LiftingStep}
 
@@ -25,10 +25,13 @@ stepOf r =
       scale = r .scale;
     }
 
--- The sizes that keep a step's sums within 64 bits, over small numbers within 32, and its reads within a line buffer.
+-- The sizes that keep a step's sums within 64 bits, over small numbers within 32, and its reads within a line buffer; and that its taps are one,
+-- or the same from both ends.
 pub record Sane (r : LiftingStep) : Type 0 where
   pub few-taps : r .count ≤ 8
   pub near : r .lead + r .count ≤ 9
   pub small-scale : r .scale ≤ 12
   pub small-taps : (t : ℕ) → t < 8 → natAbs (getD (r .taps) t (pos 0)) ≤ 2 ^ 13
-  pub small-gain : sizeSum (r .taps) (r .count) ≤ 2 ^ 14
+  pub some-taps : 1 ≤ r .count
+  pub symmetric : Symmetric (r .taps) (r .count)
+  pub small-gain : (t : ℕ) → t < r .count → r .count * natAbs (getD (r .taps) t (pos 0)) ≤ 2 ^ 14

@@ -1,6 +1,8 @@
 -- Line buffers: one half of a row, low or high, from entry 4 on, with room for 4 entries on either side. And the sizes of numbers that keep
 -- sums within 64 bits. These are the code's own forms; no definition of the format rests on them.
-use Prim.Native.Nat.{ℕ, zero, suc, _+_, _-_, _^_, _/_, _%_, _≤_, _<_, min}
+use mathlib.Core.Path.{_≡_}
+use mathlib.Core.Logic.{_≢_}
+use Prim.Native.Nat.{ℕ, _+_, _-_, _*_, _^_, _/_, _%_, _≤_, _<_, min}
 use mathlib.Core.Bool.{Bool, cond}
 use mathlib.Core.List.{List}
 use lib.Dec.{eqb}
@@ -16,10 +18,9 @@ Below l w m = (x : ℕ) → x < w → natAbs (getD l x (pos 0)) ≤ m
 abbrev pub SmallAt : List ℤ → ℕ → ℕ → Type 0
 SmallAt l place w = (x : ℕ) → x < w → natAbs (getD l (place + x) (pos 0)) ≤ 2 ^ 16
 
--- The sizes of the first n entries, added up.
-unfoldable pub sizeSum : List ℤ → ℕ → ℕ
-sizeSum l zero = 0
-sizeSum l (suc n) = sizeSum l n + natAbs (getD l n (pos 0))
+-- The first n entries are one, or an even number and the same from both ends.
+abbrev pub Symmetric : List ℤ → ℕ → Type 0
+Symmetric l n = (n ≢ 1 → n ≡ 2 * (n / 2)) × ((t : ℕ) → t < n → getD l (n - 1 - t) (pos 0) ≡ getD l t (pos 0))
 
 -- The place in a line buffer of entry s − 4 of a half of b entries, held to 0..b − 1.
 unfoldable pub heldEntry : ℕ → ℕ → ℕ

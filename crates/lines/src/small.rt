@@ -11,7 +11,7 @@ ghost use Rattle.base.specs.Fill.{fill};
 ghost use Rattle.base.specs.Floor.{floorDiv};
 ghost use Rattle.base.specs.Range.{fits32};
 ghost use Rattle.lines.specs.Sums.{sumBelow, tapAt, changed};
-ghost use Rattle.lines.specs.Buffers.{Below, SmallAt, sizeSum};
+ghost use Rattle.lines.specs.Buffers.{Below, SmallAt, Symmetric};
 use base::signed;
 
 // Whether the numbers of a line from a place on are small. A line that is not said to be small may be so.
@@ -68,7 +68,29 @@ fn add_small_tap(sums: &mut [i32; 4096], source: &[i32], place: usize, width: us
     }
 }
 
-// Sums the taps of a line of small numbers, each from its own place of the source on.
+// Adds two equal taps to the sums of a line of small numbers, each from its own place of the source on.
+fn add_small_pair(
+    sums: &mut [i32; 4096],
+    source: &[i32],
+    first: usize,
+    second: usize,
+    width: usize,
+    tap: i32,
+)
+    requires { ⌜ (width ≤ 4096) × (first + width ≤ length (now source)) × SmallAt (now source) first width × (second + width ≤ length (now source)) × SmallAt (now source) second width ⌝ }
+    requires { ⌜ ((x : ℕ) → x < width → natAbs (getD (now sums) x (pos 0)) + natAbs tap * 2 ^ 17 < 2 ^ 31) ⌝ }
+    ensures summed { λ _. ⌜ now (sums .exit) ≡ fill (now (sums .entry)) 0 width (λ x. getD (now (sums .entry)) x (pos 0) +ℤ tap *ℤ (getD (now (source .entry)) (first + x) (pos 0) +ℤ getD (now (source .entry)) (second + x) (pos 0))) ⌝ }
+    ensures small { λ _. ⌜ ((m : ℕ) → Below (now (sums .entry)) width m → Below (now (sums .exit)) width (m + natAbs tap * 2 ^ 17)) ⌝ }
+{
+    let mut x = 0;
+    while x < width {
+        let both = add(source[first + x], source[second + x]);
+        sums[x] = add(sums[x], mul(tap, both));
+        x += 1;
+    }
+}
+
+// Sums the taps of a line of small numbers, each from its own place of the source on. There is one tap, or they are the same from both ends.
 pub fn sum_small(
     sums: &mut [i32; 4096],
     source: &[i32],
@@ -78,16 +100,40 @@ pub fn sum_small(
     count: usize,
     round: i64,
 )
-    requires { ⌜ (width ≤ 4096) × (count ≤ 8) × (natAbs round ≤ 2 ^ 12) × (sizeSum (now taps) count ≤ 2 ^ 14) ⌝ }
-    requires { ⌜ ((t : ℕ) → t < count → (getD (now places) t 0 + width ≤ length (now source)) × SmallAt (now source) (getD (now places) t 0) width) ⌝ }
+    requires { ⌜ (width ≤ 4096) × (1 ≤ count) × (count ≤ 8) × (natAbs round ≤ 2 ^ 12) × Symmetric (now taps) count ⌝ }
+    requires { ⌜ ((t : ℕ) → t < count → (count * natAbs (getD (now taps) t (pos 0)) ≤ 2 ^ 14) × (getD (now places) t 0 + width ≤ length (now source)) × SmallAt (now source) (getD (now places) t 0) width) ⌝ }
     ensures summed { λ _. ⌜ ((x : ℕ) → x < width → getD (now (sums .exit)) x (pos 0) ≡ round +ℤ sumBelow (tapAt (now (taps .entry)) (now (places .entry)) (now (source .entry)) x) count) ⌝ }
     ensures small { λ _. ⌜ Below (now (sums .exit)) width (2 ^ 30 + 2 ^ 12) ⌝ }
 {
     start_small(sums, width, signed::narrow(round));
-    let mut t = 0;
-    while t < count {
-        add_small_tap(sums, source, places[t], width, signed::narrow(taps[t]));
-        t += 1;
+    if count == 1 {
+        add_small_tap(sums, source, places[0], width, signed::narrow(taps[0]));
+        return;
+    }
+    sum_pairs(sums, source, width, taps, places, count / 2);
+}
+
+// Adds the taps of a line of small numbers to its sums, pair by pair from the middle.
+fn sum_pairs(
+    sums: &mut [i32; 4096],
+    source: &[i32],
+    width: usize,
+    taps: &[i64; 8],
+    places: &[usize; 8],
+    half: usize,
+)
+    requires { ⌜ (width ≤ 4096) × (width ≤ length (now sums)) × (1 ≤ half) × (half ≤ 4) × Below (now sums) width (2 ^ 12) × Symmetric (now taps) (2 * half) ⌝ }
+    requires { ⌜ ((t : ℕ) → t < 2 * half → (2 * half * natAbs (getD (now taps) t (pos 0)) ≤ 2 ^ 14) × (getD (now places) t 0 + width ≤ length (now source)) × SmallAt (now source) (getD (now places) t 0) width) ⌝ }
+    ensures summed { λ _. ⌜ ((x : ℕ) → x < width → getD (now (sums .exit)) x (pos 0) ≡ getD (now (sums .entry)) x (pos 0) +ℤ sumBelow (tapAt (now (taps .entry)) (now (places .entry)) (now (source .entry)) x) (2 * half)) ⌝ }
+    ensures small { λ _. ⌜ Below (now (sums .exit)) width (2 ^ 30 + 2 ^ 12) ⌝ }
+{
+    let mut j = 0;
+    while j < half {
+        let low = half - 1 - j;
+        let high = half + j;
+        let tap = signed::narrow(taps[low]);
+        add_small_pair(sums, source, places[low], places[high], width, tap);
+        j += 1;
     }
 }
 

@@ -299,9 +299,24 @@ pub fn extreme_at_a_level(random: &mut Random, p: &Parameters) -> Vec<i32> {
     plane
 }
 
-/// Coefficients for synthesise: of few bits or many, extremes alone, or extremes at one level.
+/// Numbers of about 2^16 in size, the most that the library lifts in 32 bits; one of them may be
+/// larger.
+fn plane_at_the_small_bound(random: &mut Random, p: &Parameters) -> Vec<i32> {
+    let mut plane: Vec<i32> = (0..padded_area(p))
+        .map(|_| random.pick(&[65_535, 65_534, -65_536, -65_535, 0]))
+        .collect();
+    if random.range(0, 1) == 0 {
+        let at = random.range(0, plane.len() as i64 - 1) as usize;
+        plane[at] = random.pick(&[65_536, 65_537, -65_537, -65_538]);
+    }
+    plane
+}
+
+/// Coefficients for synthesise: of few bits or many, about 2^16 in size, extremes alone, or extremes
+/// at one level.
 pub fn random_coefficients(random: &mut Random, p: &Parameters) -> Vec<i32> {
-    match random.range(0, 9) {
+    match random.range(0, 10) {
+        10 => plane_at_the_small_bound(random, p),
         0..=3 => {
             let bits = random.range(1, 24);
             plane_of_bits(random, p, bits)

@@ -9,11 +9,11 @@
 //! table is wrong or nearly so.
 
 use crate::encode::{
-    encode_body, encode_subbands, quantise_plane, EncodeOptions, Rounding, SubbandOptions,
+    encode_body, encode_coefficients, encode_subbands, picture_coefficients, EncodeOptions,
+    SubbandOptions,
 };
 use crate::params::{
-    padded_area, padded_height, padded_width, subband, subbands, Orientation, Parameters,
-    MAX_QUANTISER,
+    padded_area, padded_width, subband, subbands, Orientation, Parameters, MAX_QUANTISER,
 };
 use crate::pieces::{
     bits, joined, parameters, random_body, random_options, signed_numbers, sparse_body,
@@ -22,9 +22,9 @@ use crate::pieces::{
 use crate::random::Random;
 use crate::recording::{read_recording, write_recording, Entry};
 use crate::refused_recordings::refused_recordings;
+use crate::vectors;
 use crate::vectors::edge_jobs;
 use crate::wrong_tables::table_recordings;
-use crate::{analyse, vectors};
 
 /// A recording and its name.
 pub struct Recording {
@@ -84,27 +84,8 @@ pub fn synthesis_entry(job: &vectors::Job) -> Entry {
 
 /// An entry that states a picture: its samples, repeated into the padding, analysed and quantised.
 pub fn picture_entry(p: &Parameters, samples: &[i64], options: &EncodeOptions) -> Entry {
-    let (width, height) = (p.width as usize, p.height as usize);
-    let mut plane = Vec::new();
-    for y in 0..padded_height(p) {
-        for x in 0..padded_width(p) {
-            let sample = samples[y.min(height - 1) * width + x.min(width - 1)];
-            plane.push(i128::from(sample));
-        }
-    }
-    let analysis = analyse(p, &plane).expect("parameters in range");
-    let coefficients: Vec<i32> = analysis
-        .coefficients
-        .iter()
-        .map(|&c| i32::try_from(c).expect("a coefficient in range"))
-        .collect();
-    let indices: Vec<u32> = options
-        .subbands
-        .iter()
-        .map(|options| options.quantiser as u32)
-        .collect();
-    let quantised = quantise_plane(p, &coefficients, &indices, Rounding::Nearest);
-    entry(p, encode_body(p, &quantised, options))
+    let coefficients = picture_coefficients(p, samples);
+    entry(p, encode_coefficients(p, &coefficients, options))
 }
 
 /// An entry of a picture with a slope, a sharp edge of a height and some noise, its layout and its

@@ -62,11 +62,12 @@ sum-small-requires c κs =
     let round = after .before .rounding-of in (
       (
         omega arith,
+        sane .some-taps,
         sane .few-taps,
         rw (rounding-back (step .scale) (round .result) (sane .small-scale) (round .ensures)) (rounding-slight (step .scale) (sane .small-scale)),
-        sane .small-gain,
+        sane .symmetric,
       ),
-      λ t h. (source-room after t (omega arith), rw (after .before .before .before .row-places .ensures t (omega arith)) (start .pre .1 (c .before .before .before .before .if1 .taken) .0 (start .args .k + step .lead + t))),
+      λ t h. (sane .small-gain t h, source-room after t (omega arith), rw (after .before .before .before .row-places .ensures t (omega arith)) (start .pre .1 (c .before .before .before .before .if1 .taken) .0 (start .args .k + step .lead + t))),
     )
 
 lift-small-requires : tie.Need-lift-small-requires

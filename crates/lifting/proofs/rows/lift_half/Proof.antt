@@ -41,8 +41,9 @@ sum-small-requires c κs =
     let sane = start .pre .2 in
     let places = rounded .before .before .line-places .ensures in
     let small = c .before .before .before .before .before .before .are-small .ensures (c .before .before .before .before .before .if1 .taken) .1 in (
-      (omega arith, sane .few-taps, rw (round rounded) (rounding-slight _ (sane .small-scale)), sane .small-gain),
+      (omega arith, sane .some-taps, sane .few-taps, rw (round rounded) (rounding-slight _ (sane .small-scale)), sane .symmetric),
       λ t h. (
+        sane .small-gain t h,
         rw (places t (omega arith)) (omega arith),
         λ x inside.
             let at = start .args .step .lead + t + x in

@@ -1,161 +1,114 @@
--- `lines::small::sum_small` meets its contract: after t turns each sum is the starting number with t taps added, and no larger than their shares.
+-- `lines::small::sum_small` meets its contract: each sum starts with the rounding, and has the one tap or the pairs of taps added.
 -- Assumes nothing.
-use mathlib.Core.Path.{_≡_, refl, _∙_}
-use mathlib.Core.Bool.{true}
-use Prim.Native.Nat.{ℕ, _+_, _-_, _*_, _^_, _≤_, _<_}
-use native.Mathlib.Nat.{mul-le-mul-right}
+use mathlib.Core.Path.{_≡_, refl, ap, _∙_}
+use Prim.Native.Nat.{ℕ, _+_, _*_, _/_, _^_, _≤_, _<_}
 use native.Mathlib.Omega.{arith}
+use borrow.Author.Needs.{needs}
 use lib.IntN.{ℤ, pos, natAbs, _+ℤ_, _*ℤ_}
 use lib.ListN.{length, getD}
 use mir.Syntax.{w32, w64}
 use mir.Val.{toZ, ofZ}
-use Rattle.base.specs.Range.{fits32}
-use Rattle.base.proofs.Fills.{length-fill, getD-fill-start}
-use Rattle.base.proofs.Magnitudes.{mag-size}
-use Rattle.base.proofs.Ranges.{back, below-fits32}
-use Rattle.lines.specs.Buffers.{Below, sizeSum}
+use Rattle.base.proofs.Fills.{getD-fill-start}
+use Rattle.base.proofs.Ranges.{back}
+use Rattle.lines.specs.Buffers.{Below, Symmetric}
 use Rattle.lines.specs.Sums.{sumBelow, tapAt}
-use Rattle.lines.proofs.SumLaws.{sum-none, sum-more, size-more, size-most}
+use Rattle.lines.proofs.SumLaws.{slight, sum-one}
 use Rattle.lines.proofs.small.sum_small.Statement.{statement}
 use Rattle.lines.proofs.small.sum_small.Tie as tie
 
-abbrev Inv-loop : tie.InvT-loop
-Inv-loop sums₀ source width taps places count round t₀ sums t =
-    (t ≤ count)
-    × (width ≤ length sums)
-    × ((x : ℕ) → x < width → getD sums x (pos 0) ≡ toZ w64 round +ℤ sumBelow (tapAt taps places source x) t)
-    × Below sums width (2 ^ 12 + sizeSum taps t * 2 ^ 16)
-
-abbrev μ-loop : tie.MeasureT-loop
-μ-loop sums₀ source width taps places count round t₀ sums t = count - t
-
--- a number of at most 14 bits fits 32
-slight : (z : ℤ) → natAbs z ≤ 2 ^ 14 → fits32 z ≡ true
-slight z h = below-fits32 z (omega (arith, mag-size z))
-
-narrow-requires : tie.Need-narrow-requires Inv-loop μ-loop
+narrow-requires : tie.Need-narrow-requires
 narrow-requires c κs =
     let start = c .before in
-    rw (back w64 (start .args .round) (start .fits .round .sfits)) (slight (start .args .round) (omega (arith, start .pre .0 .2)))
+    rw (back w64 (start .args .round) (start .fits .round .sfits)) (slight (start .args .round) (omega (arith, start .pre .0 .3)))
 
-start-small-requires : tie.Need-start-small-requires Inv-loop μ-loop
-start-small-requires c κs = omega arith
+start-small-requires : tie.Need-start-small-requires
+start-small-requires c κs = search needs
 
--- each sum starts with the number
-started : (c : tie.After-start-small Inv-loop μ-loop) (x : ℕ) → x < c .before .before .before .args .width → getD (c .start-small .last .0) x (pos 0) ≡ toZ w64 (ofZ w64 (c .before .before .before .args .round))
+-- each sum starts with the number, which is small
+started : (c : tie.After-start-small) (x : ℕ) → x < c .before .before .before .args .width → getD (c .start-small .last .0) x (pos 0) ≡ c .before .before .before .args .round
 started c x h =
     let start = c .before .before .before in
     rw (c .start-small .ensures) (getD-fill-start (start .args .sums .now) (λ k. toZ w32 (ofZ w32 (c .before .narrow .result))) (start .args .width) x (pos 0) h (omega arith))
-    ∙ back w32 (c .before .narrow .result) (c .before .narrow .ok) ∙ c .before .narrow .ensures
+    ∙ back w32 (c .before .narrow .result) (c .before .narrow .ok) ∙ c .before .narrow .ensures ∙ back w64 (start .args .round) (start .fits .round .sfits)
 
-loop-holds : tie.Need-loop-holds Inv-loop μ-loop
-unfolding sizeSum
-loop-holds c =
-    let start = c .before .before .before in (
-      omega arith,
-      omega (arith, c .start-small .kept .0),
-      λ x h. started c x h ∙ sum-none _ _,
-      λ x h. rw (started c x h, back w64 (start .args .round) (start .fits .round .sfits)) (omega (arith, start .pre .0 .2)),
-    )
+start-below : (c : tie.After-start-small) → Below (c .start-small .last .0) (c .before .before .before .args .width) (2 ^ 12)
+start-below c x h = rw (started c x h) (c .before .before .before .pre .0 .3)
 
-mul-add-small-tap : tie.Need-mul-add-small-tap Inv-loop μ-loop
-mul-add-small-tap c = omega arith
+element-copy-out-add-small-tap : tie.Need-element-copy-out-add-small-tap
+element-copy-out-add-small-tap c = search needs
 
-element-copy-out-add-small-tap : tie.Need-element-copy-out-add-small-tap Inv-loop μ-loop
-element-copy-out-add-small-tap c = omega arith
+element-copy-out-narrow : tie.Need-element-copy-out-narrow
+element-copy-out-narrow c = search needs
 
-mul-narrow : tie.Need-mul-narrow Inv-loop μ-loop
-mul-narrow c = omega arith
+-- the one tap is slight
+one-gain : (c : tie.Then1) → natAbs (getD (c .before .before .before .before .args .taps .now) 0 (pos 0)) ≤ 2 ^ 14
+one-gain c =
+    let start = c .before .before .before .before in
+    let gain : 1 * natAbs (getD (start .args .taps .now) 0 (pos 0)) ≤ 2 ^ 14 = rw (c .if1 .taken) at (start .pre .1 0 (omega arith) .0) in
+    omega arith
 
-element-copy-out-narrow : tie.Need-element-copy-out-narrow Inv-loop μ-loop
-element-copy-out-narrow c = omega arith
+narrow-requires-2 : tie.Need-narrow-requires-2
+narrow-requires-2 c κs = rw (back w64 _ (c .narrow-arg .given)) (slight _ (one-gain (c .before .before .before)))
 
--- the tap of this turn, and its share of the sizes
-abbrev tap : tie.At-loop Inv-loop μ-loop → ℤ
-tap c = getD (c .before .before .before .before .args .taps .now) (c .loop .t) (pos 0)
-
-share : (c : tie.In-loop Inv-loop μ-loop) → let start = c .before .before .before .before .before in
-    sizeSum (start .args .taps .now) (c .before .loop .t) + natAbs (tap (c .before)) ≤ 2 ^ 14
-share c =
-    let start = c .before .before .before .before .before in
-    omega (arith, size-most (start .args .taps .now) (c .before .loop .t) (start .args .count) (omega arith), start .pre .0 .3)
-
-narrow-requires-2 : tie.Need-narrow-requires-2 Inv-loop μ-loop
-narrow-requires-2 c κs =
-    let turn = c .before .before .before in
-    rw (back w64 (tap (turn .before)) (c .narrow-arg .given)) (slight (tap (turn .before)) (omega (arith, share turn)))
-
--- the factor that the tap's loop is handed
-factor : (c : tie.After-narrow2 Inv-loop μ-loop) → toZ w32 (ofZ w32 (c .narrow2 .result)) ≡ tap (c .before .before .before .before .before)
+factor : (c : tie.After-narrow2) → toZ w32 (ofZ w32 (c .narrow2 .result)) ≡ getD (c .before .before .before .before .before .before .before .before .args .taps .now) 0 (pos 0)
 factor c = back w32 (c .narrow2 .result) (c .narrow2 .ok) ∙ c .narrow2 .ensures ∙ back w64 _ (c .before .narrow-arg .given)
 
-add-small-tap-requires : tie.Need-add-small-tap-requires Inv-loop μ-loop
+add-small-tap-requires : tie.Need-add-small-tap-requires
 add-small-tap-requires c κs =
-    let head = c .before .before .before .before .before in
-    let start = head .before .before .before .before in
-    let room = start .pre .1 (head .loop .t) (omega arith) in
-    let most = mul-le-mul-right (2 ^ 16) (share (c .before .before .before .before)) in
-    ((start .pre .0 .0, room .0, room .1), λ x h. rw (factor c) (omega (arith, head .loop .inv .3 x h, most)))
+    let start = c .before .before .before .before .before .before .before .before in
+    let room = start .pre .1 0 (omega arith) in
+    ((start .pre .0 .0, room .1, room .2), λ x h. rw (factor c) (omega (arith, start-below (c .before .before .before .before .before) x h, one-gain (c .before .before .before .before))))
 
-add-t : tie.Need-add-t Inv-loop μ-loop
-add-t c = omega arith
-
-loop-less : tie.Need-loop-less Inv-loop μ-loop
-loop-less c = omega arith
-
--- what each tap adds at a place, and that one was added
-abbrev term : tie.At-loop Inv-loop μ-loop → ℕ → ℕ → ℤ
-term c = let start = c .before .before .before .before in tapAt (start .args .taps .now) (start .args .places .now) (start .args .source .now)
-
-added : (c : tie.After-add-small-tap Inv-loop μ-loop) (x : ℕ) → let head = c .before .before .before .before .before .before in
-    x < head .before .before .before .before .args .width
-    → getD (c .add-small-tap .last .0) x (pos 0) ≡ getD (head .loop .sums) x (pos 0) +ℤ term head x (head .loop .t)
+returns : tie.Need-returns
 unfolding tapAt
-added c x h =
-    let head = c .before .before .before .before .before .before in
-    let start = head .before .before .before .before in
-    let place = getD (start .args .places .now) (head .loop .t) 0 in
-    rw (c .add-small-tap .ensures .0, factor (c .before))
-    (getD-fill-start (head .loop .sums) (λ k. getD (head .loop .sums) k (pos 0) +ℤ tap head *ℤ getD (start .args .source .now) (place + k) (pos 0)) (start .args .width) x (pos 0) h (omega arith))
-
-loop-again : tie.Need-loop-again Inv-loop μ-loop
-loop-again c =
-    let head = c .before .before .before .before .before .before in
-    let start = head .before .before .before .before in
-    let round = toZ w64 (ofZ w64 (start .args .round)) in
-    let taps = start .args .taps .now in (
-      omega arith,
-      rw (c .add-small-tap .ensures .0, length-fill) (head .loop .inv .1),
-      λ x h. added c x h ∙ rw (head .loop .inv .2 x h) (sum-more round (term head x) (head .loop .t)),
-      λ x h. rw (← size-more taps (head .loop .t)) (omega (arith, rw (factor (c .before)) at (c .add-small-tap .ensures .1 (2 ^ 12 + sizeSum taps (head .loop .t) * 2 ^ 16) (head .loop .inv .3) x h))),
+returns c =
+    let made = c .before .before .before .before .before .before in
+    let start = made .before .before .before in
+    let taps = start .args .taps .now in
+    let places = start .args .places .now in
+    let source = start .args .source .now in
+    let tap = getD taps 0 (pos 0) in (
+      λ x h.
+          rw (c .add-small-tap .ensures .0, factor (c .before))
+          (getD-fill-start (made .start-small .last .0) (λ k. getD (made .start-small .last .0) k (pos 0) +ℤ tap *ℤ getD source (getD places 0 0 + k) (pos 0)) (start .args .width) x (pos 0) h (omega (arith, made .start-small .kept .0)))
+          ∙ ap (λ (t : ℤ). t +ℤ tap *ℤ getD source (getD places 0 0 + x) (pos 0)) (started made x h)
+          ∙ rw (c .before .before .before .before .before .if1 .taken) (sum-one (start .args .round) (tapAt taps places source x)),
+      λ x h. omega (arith, rw (factor (c .before)) at (c .add-small-tap .ensures .1 (2 ^ 12) (start-below made) x h), one-gain (c .before .before .before .before .before)),
     )
 
-returns : tie.Need-returns Inv-loop μ-loop
-returns c =
-    let head = c .before in
-    let start = head .before .before .before .before in
-    let all : head .loop .t ≡ start .args .count = omega arith in
-    let most = mul-le-mul-right (2 ^ 16) (start .pre .0 .3) in (
-      λ x h. head .loop .inv .2 x h ∙ rw (all, back w64 (start .args .round) (start .fits .round .sfits)) refl,
-      λ x h. omega (arith, rw all at (head .loop .inv .3 x h), most),
+-- the pairs are all the taps
+whole : (c : tie.Else1) → 2 * (c .before .before .before .before .args .count / 2) ≡ c .before .before .before .before .args .count
+whole c = let even = c .before .before .before .before .pre .0 .4 .0 (c .if1 .left) in omega arith
+
+sum-pairs-requires : tie.Need-sum-pairs-requires
+sum-pairs-requires c κs =
+    let other = c .before in
+    let start = other .before .before .before .before in
+    let made = other .before in
+    rw (whole other) (
+      (start .pre .0 .0, omega (arith, made .start-small .kept .0), omega (arith, whole other), omega arith, start-below made, start .pre .0 .4),
+      start .pre .1,
+    )
+
+returns-2 : tie.Need-returns-2
+returns-2 c =
+    let other = c .before .before in
+    let made = other .before in
+    let start = made .before .before .before in (
+      λ x h. c .sum-pairs .ensures .0 x h ∙ rw (whole other, started made x h) refl,
+      c .sum-pairs .ensures .1,
     )
 
 pub sum-small-spec : {M : Type 1} → statement M
 sum-small-spec =
     tie.close
     (tie.spec
-    Inv-loop
-    μ-loop
     narrow-requires
     start-small-requires
-    loop-holds
-    mul-add-small-tap
     element-copy-out-add-small-tap
-    mul-narrow
     element-copy-out-narrow
     narrow-requires-2
     add-small-tap-requires
-    add-t
-    loop-less
-    loop-again
-    returns)
+    returns
+    sum-pairs-requires
+    returns-2)

@@ -1,0 +1,223 @@
+//! The decoders on one component: that they agree, and how fast they are.
+
+use crate::libavcodec::Libavcodec;
+use crate::material::Material;
+use crate::race::{race, Contestant};
+use ffmpeg::proved::proved_parameters;
+use ffmpeg::stream::{BitDepth, COMPONENTS};
+use reference::params::padded_area;
+
+/// How many turns the contestants have on a component before the next one is measured.
+#[derive(Clone, Copy, Debug)]
+pub struct Effort {
+    pub rounds: usize,
+    /// The reference takes tenths of a second where the others take hundredths.
+    pub reference_rounds: usize,
+}
+
+/// Megasamples a second of the three jobs.
+#[derive(Clone, Copy, Debug)]
+pub struct Jobs {
+    pub unpack: f64,
+    pub synthesise: f64,
+    pub decode: f64,
+}
+
+/// Megasamples a second of everyone.
+#[derive(Clone, Copy, Debug)]
+pub struct Speeds {
+    pub proved: Jobs,
+    pub reference: Jobs,
+    /// libavcodec with SIMD code, and in plain C.
+    pub libavcodec: Option<[f64; 2]>,
+}
+
+impl Jobs {
+    /// The best of each.
+    fn best(self, other: Jobs) -> Jobs {
+        Jobs {
+            unpack: self.unpack.max(other.unpack),
+            synthesise: self.synthesise.max(other.synthesise),
+            decode: self.decode.max(other.decode),
+        }
+    }
+}
+
+impl Speeds {
+    /// The best of each.
+    pub fn best(self, other: Speeds) -> Speeds {
+        let both = self.libavcodec.zip(other.libavcodec);
+        Speeds {
+            proved: self.proved.best(other.proved),
+            reference: self.reference.best(other.reference),
+            libavcodec: both.map(|(a, b)| [a[0].max(b[0]), a[1].max(b[1])]),
+        }
+    }
+}
+
+/// The planes of a component.
+#[derive(PartialEq, Eq)]
+struct Planes {
+    coefficients: Vec<i32>,
+    work: Vec<i32>,
+    samples: Vec<i32>,
+}
+
+impl Planes {
+    /// Planes of zeros for a component.
+    fn new(material: &Material) -> Planes {
+        let area = padded_area(&material.parameters);
+        Planes {
+            coefficients: vec![0; area],
+            work: vec![0; area],
+            samples: vec![0; material.samples()],
+        }
+    }
+}
+
+/// A job on a component; answers its status.
+type Job = fn(&Material, &mut Planes) -> u32;
+
+/// Unpack, synthesise and decode of the proved library.
+const PROVED: [Job; 3] = [
+    |m, planes| {
+        let p = proved_parameters(&m.parameters);
+        status(kafsillun::unpack(&p, &m.body, &mut planes.coefficients))
+    },
+    |m, planes| {
+        let p = proved_parameters(&m.parameters);
+        status(kafsillun::synthesise(
+            &p,
+            &planes.coefficients,
+            &mut planes.work,
+            &mut planes.samples,
+        ))
+    },
+    |m, planes| {
+        let p = proved_parameters(&m.parameters);
+        status(kafsillun::decode(
+            &p,
+            &m.body,
+            &mut planes.coefficients,
+            &mut planes.work,
+            &mut planes.samples,
+        ))
+    },
+];
+
+/// Unpack, synthesise and decode of the reference.
+const REFERENCE: [Job; 3] = [
+    |m, planes| reference::unpack(&m.parameters, &m.body, &mut planes.coefficients).status,
+    |m, planes| {
+        reference::synthesise(
+            &m.parameters,
+            &planes.coefficients,
+            &mut planes.work,
+            &mut planes.samples,
+        )
+        .status
+    },
+    |m, planes| {
+        reference::decode(
+            &m.parameters,
+            &m.body,
+            &mut planes.coefficients,
+            &mut planes.work,
+            &mut planes.samples,
+        )
+        .status
+    },
+];
+
+/// The status of a job of the proved library.
+fn status<T>(result: Result<T, kafsillun::Error>) -> u32 {
+    result.map_or_else(|error| error.number(), |_| 0)
+}
+
+/// libavcodec with SIMD code and in plain C, if it is installed.
+fn open_libavcodec(material: &Material) -> Vec<Libavcodec> {
+    let (packet, number_place) = material.packet();
+    [true, false]
+        .into_iter()
+        .filter_map(|simd| Libavcodec::new(&packet, number_place, simd))
+        .collect()
+}
+
+/// Whether libavcodec's samples are those of document 01: its halving of wavelet 6 is another.
+pub fn libavcodec_agrees(wavelet: u32) -> bool {
+    wavelet != 6
+}
+
+/// Holds all jobs of the reference to those of the proved library, and libavcodec's samples to its
+/// samples, or says who differs.
+pub fn check(material: &Material) -> Result<(), String> {
+    let (mut proved, mut reference) = (Planes::new(material), Planes::new(material));
+    for (proved_job, reference_job) in PROVED.iter().zip(REFERENCE) {
+        let accepted = proved_job(material, &mut proved) == 0;
+        if !accepted || reference_job(material, &mut reference) != 0 || proved != reference {
+            return Err("the reference differs, or a job refuses".to_string());
+        }
+    }
+    let p = &material.parameters;
+    if !libavcodec_agrees(p.wavelet) {
+        return Ok(());
+    }
+    let shown = |sample: &i32| sample + BitDepth::Eight.offset();
+    let samples: Vec<i32> = proved.samples.iter().map(shown).collect();
+    for mut libavcodec in open_libavcodec(material) {
+        libavcodec.decode();
+        for component in 0..COMPONENTS {
+            if libavcodec.samples(component, p.width, p.height) != samples {
+                return Err(format!("libavcodec differs in component {component}"));
+            }
+        }
+    }
+    Ok(())
+}
+
+/// How fast everyone is on a component that was checked. Planes are allocated once and not cleared
+/// between turns.
+pub fn measure(material: &Material, effort: Effort) -> Speeds {
+    let mut contestants = Vec::new();
+    contestants.extend(job_contestants(material, PROVED, effort.rounds));
+    contestants.extend(job_contestants(
+        material,
+        REFERENCE,
+        effort.reference_rounds,
+    ));
+    for mut libavcodec in open_libavcodec(material) {
+        contestants.push(Contestant::new(
+            COMPONENTS * material.samples(),
+            effort.rounds,
+            move || libavcodec.decode(),
+        ));
+    }
+    race(&mut contestants);
+    let speeds: Vec<f64> = contestants.iter().map(Contestant::megasamples).collect();
+    let jobs = |first: usize| Jobs {
+        unpack: speeds[first],
+        synthesise: speeds[first + 1],
+        decode: speeds[first + 2],
+    };
+    Speeds {
+        proved: jobs(0),
+        reference: jobs(3),
+        libavcodec: speeds[6..].try_into().ok(),
+    }
+}
+
+/// Each of a decoder's jobs with planes of its own, the coefficients unpacked.
+fn job_contestants(material: &Material, jobs: [Job; 3], rounds: usize) -> [Contestant<'_>; 3] {
+    let [unpack, ..] = jobs;
+    jobs.map(|job| {
+        let mut planes = Planes::new(material);
+        unpack(material, &mut planes);
+        Contestant::new(material.samples(), rounds, move || {
+            assert_eq!(
+                job(material, &mut planes),
+                0,
+                "a component that was checked"
+            );
+        })
+    })
+}

@@ -1,0 +1,55 @@
+//! Interleaved timing: every contestant has a turn in every round, and its best turn counts.
+
+use crate::clock::processor_time;
+
+/// The least samples of a turn: small pictures are decoded many times over.
+const LEAST_SAMPLES: usize = 1 << 20;
+
+/// Something to time.
+pub struct Contestant<'a> {
+    samples: usize,
+    runs: usize,
+    rounds: usize,
+    run: Box<dyn FnMut() + 'a>,
+    best_seconds: f64,
+}
+
+impl<'a> Contestant<'a> {
+    /// A contestant that makes this many samples in a run, and takes part in the first rounds.
+    pub fn new(samples: usize, rounds: usize, run: impl FnMut() + 'a) -> Contestant<'a> {
+        Contestant {
+            samples,
+            runs: LEAST_SAMPLES.div_ceil(samples),
+            rounds,
+            run: Box::new(run),
+            best_seconds: f64::INFINITY,
+        }
+    }
+
+    /// Megasamples a second in the best turn.
+    pub fn megasamples(&self) -> f64 {
+        (self.runs * self.samples) as f64 / self.best_seconds / 1e6
+    }
+
+    /// Takes a turn and keeps its time if it is the best.
+    fn take_turn(&mut self) {
+        let start = processor_time();
+        for _ in 0..self.runs {
+            (self.run)();
+        }
+        let seconds = (processor_time() - start).as_secs_f64();
+        self.best_seconds = self.best_seconds.min(seconds);
+    }
+}
+
+/// Has the contestants take turns until each has had its rounds.
+pub fn race(contestants: &mut [Contestant]) {
+    let rounds = contestants.iter().map(|c| c.rounds).max().unwrap_or(0);
+    for round in 0..rounds {
+        for contestant in contestants.iter_mut() {
+            if round < contestant.rounds {
+                contestant.take_turn();
+            }
+        }
+    }
+}

@@ -1,0 +1,262 @@
+//! Where FFmpeg's samples mean something, and which samples it owes there.
+//!
+//! FFmpeg works in 16 bits where document 01 has 32, and has slips of its own. A component that meets
+//! one of them is set aside, with the reason.
+
+use crate::proved::Decoded;
+use crate::stream::BitDepth;
+use reference::params::{padded_height, padded_width, subband, Orientation, Parameters};
+use reference::transform::{interleave, Grid, Step, FILTERS};
+use reference::unpack::prediction;
+
+/// Why FFmpeg cannot vouch for a component.
+#[derive(Clone, Copy, Debug, PartialEq, Eq)]
+pub enum Aside {
+    /// The proved library refuses it, so there are no samples.
+    Refused,
+    /// FFmpeg has no depth 0.
+    Depth,
+    /// FFmpeg refuses more codeblocks than the width or height, halved once for each level above.
+    Codeblocks,
+    /// FFmpeg's SIMD code spoils levels of fewer than 8 columns.
+    NarrowSimd,
+    /// FFmpeg's wavelet 2 goes wrong at the edge of levels of up to 4 columns.
+    NarrowWavelet2,
+    /// FFmpeg's wavelet 6 spoils the last column in its 32-bit code.
+    DeepWavelet6,
+    /// FFmpeg dequantises in 32 bits.
+    Dequantising,
+    /// FFmpeg divides the sum of three neighbours by an approximation, good up to some 32,767.
+    Prediction,
+    /// FFmpeg keeps numbers of 8-bit pictures, and its SIMD code sums, in 16 bits; other sums in 32.
+    Range,
+    /// FFmpeg clips every sample.
+    Clipped,
+}
+
+impl Aside {
+    /// Every reason, in the order in which they are looked for.
+    pub const ALL: [Aside; 10] = [
+        Aside::Refused,
+        Aside::Depth,
+        Aside::Codeblocks,
+        Aside::NarrowSimd,
+        Aside::NarrowWavelet2,
+        Aside::DeepWavelet6,
+        Aside::Dequantising,
+        Aside::Prediction,
+        Aside::Range,
+        Aside::Clipped,
+    ];
+
+    /// The reason in a few words.
+    pub fn reason(self) -> &'static str {
+        match self {
+            Aside::Refused => "refused by the proved library",
+            Aside::Depth => "depth 0",
+            Aside::Codeblocks => "more codeblocks than FFmpeg allows",
+            Aside::NarrowSimd => "SIMD, a level of fewer than 8 columns",
+            Aside::NarrowWavelet2 => "wavelet 2, a level of up to 4 columns",
+            Aside::DeepWavelet6 => "wavelet 6 with more than 8 bits",
+            Aside::Dequantising => "a product outside 32 bits",
+            Aside::Prediction => "a sum of three neighbours beyond 32,766",
+            Aside::Range => "a number outside the bits that FFmpeg has for it",
+            Aside::Clipped => "every sample clipped",
+        }
+    }
+}
+
+/// The samples that FFmpeg owes for a component, before the offset and clipping.
+pub struct Owed {
+    pub samples: Vec<i32>,
+    /// Whether they are the proved library's; otherwise its coefficients were synthesised with
+    /// FFmpeg's halving of wavelet 6.
+    pub proved: bool,
+}
+
+/// How FFmpeg decodes a picture.
+#[derive(Clone, Copy, Debug)]
+pub struct Setting {
+    pub bit_depth: BitDepth,
+    pub simd: bool,
+}
+
+/// What FFmpeg owes for a component that the proved library decoded, or why it cannot vouch for it.
+pub fn owed(p: &Parameters, setting: Setting, decoded: Decoded) -> Result<Owed, Aside> {
+    check_parameters(p, setting)?;
+    check_dequantising(p, &decoded.coefficients)?;
+    check_prediction(p, &decoded.coefficients)?;
+    let proved = p.wavelet != 6;
+    let halve = if proved {
+        reference::transform::shift_down
+    } else {
+        |v: i128| v.div_euclid(2)
+    };
+    let limits = Limits::of(p, setting);
+    let picture = synthesise_within(p, &decoded.coefficients, &limits, halve)?;
+    let samples = if proved {
+        decoded.samples
+    } else {
+        cropped(p, &picture)
+    };
+    if samples.iter().all(|&v| is_clipped(v, setting.bit_depth)) {
+        return Err(Aside::Clipped);
+    }
+    Ok(Owed { samples, proved })
+}
+
+/// Whether FFmpeg clips a sample.
+pub fn is_clipped(sample: i32, bit_depth: BitDepth) -> bool {
+    !(-bit_depth.offset()..bit_depth.offset()).contains(&sample)
+}
+
+/// The columns of level 1, the narrowest that a transform makes.
+fn narrowest_level(p: &Parameters) -> usize {
+    padded_width(p) >> (p.depth - 1)
+}
+
+/// Whether FFmpeg has SIMD code for a wavelet.
+fn has_simd(wavelet: u32) -> bool {
+    wavelet < 5
+}
+
+/// The reasons that lie in the parameters.
+fn check_parameters(p: &Parameters, setting: Setting) -> Result<(), Aside> {
+    if p.depth == 0 {
+        return Err(Aside::Depth);
+    }
+    for level in 0..=p.depth {
+        let most = |size: u32| size >> (p.depth - level);
+        if p.codeblocks_across[level as usize] > most(p.width)
+            || p.codeblocks_down[level as usize] > most(p.height)
+        {
+            return Err(Aside::Codeblocks);
+        }
+    }
+    if setting.simd && narrowest_level(p) < 8 {
+        return Err(Aside::NarrowSimd);
+    }
+    if p.wavelet == 2 && narrowest_level(p) <= 4 {
+        return Err(Aside::NarrowWavelet2);
+    }
+    if p.wavelet == 6 && setting.bit_depth != BitDepth::Eight {
+        return Err(Aside::DeepWavelet6);
+    }
+    Ok(())
+}
+
+/// What prediction added to each value of level 0.
+fn predictions<'a>(
+    p: &Parameters,
+    coefficients: &'a [i32],
+) -> impl Iterator<Item = (usize, usize, i64)> + 'a {
+    let row_width = padded_width(p);
+    let band = subband(p, 0, Orientation::LL);
+    (0..band.height).flat_map(move |y| {
+        (0..band.width).map(move |x| {
+            let value = |x, y| i64::from(coefficients[y * row_width + x]);
+            (x, y, prediction(x, y, value))
+        })
+    })
+}
+
+/// Whether FFmpeg's products of numbers and factors fit 32 bits: a quarter of them is the coefficient.
+fn check_dequantising(p: &Parameters, coefficients: &[i32]) -> Result<(), Aside> {
+    let row_width = padded_width(p);
+    let mut residuals: Vec<i64> = coefficients.iter().map(|&c| c.into()).collect();
+    if p.intra {
+        for (x, y, added) in predictions(p, coefficients) {
+            residuals[y * row_width + x] -= added;
+        }
+    }
+    if residuals.iter().all(|r| r.abs() < 1 << 30) {
+        Ok(())
+    } else {
+        Err(Aside::Dequantising)
+    }
+}
+
+/// Whether FFmpeg's division by 3 is exact for every sum of neighbours.
+fn check_prediction(p: &Parameters, coefficients: &[i32]) -> Result<(), Aside> {
+    let thrice = |(x, y, added): (usize, usize, i64)| x > 0 && y > 0 && added.abs() > 32_766 / 3;
+    if p.intra && predictions(p, coefficients).any(thrice) {
+        Err(Aside::Prediction)
+    } else {
+        Ok(())
+    }
+}
+
+/// The largest magnitudes that FFmpeg's arithmetic holds.
+struct Limits {
+    numbers: i128,
+    sums: i128,
+}
+
+impl Limits {
+    /// The limits for a component.
+    fn of(p: &Parameters, setting: Setting) -> Limits {
+        let (short, long) = (i16::MAX.into(), i32::MAX.into());
+        let is_short = setting.bit_depth == BitDepth::Eight;
+        let sums_are_short = is_short && setting.simd && has_simd(p.wavelet);
+        Limits {
+            numbers: if is_short { short } else { long },
+            sums: if sums_are_short { short } else { long },
+        }
+    }
+
+    /// Whether a step on this picture stays within the limits.
+    fn allow(&self, picture: &Grid, step: &Step) -> bool {
+        let largest = picture.numbers.iter().map(|v| v.abs()).max().unwrap_or(0);
+        let taps: i128 = step.taps.iter().map(|tap| tap.abs()).sum();
+        largest <= self.numbers && largest * taps + (1 << step.scale) <= self.sums
+    }
+}
+
+/// The padded picture of a coefficient plane, as document 01 has it but for the halving, if every
+/// number and every sum stays within the limits.
+fn synthesise_within(
+    p: &Parameters,
+    coefficients: &[i32],
+    limits: &Limits,
+    halve: fn(i128) -> i128,
+) -> Result<Grid, Aside> {
+    let plane = Grid {
+        width: padded_width(p),
+        height: padded_height(p),
+        numbers: coefficients.iter().map(|&c| c.into()).collect(),
+    };
+    let filter = &FILTERS[p.wavelet as usize];
+    let mut picture = plane.subband(&subband(p, 0, Orientation::LL));
+    for level in 1..=p.depth {
+        let band = |orientation| plane.subband(&subband(p, level, orientation));
+        picture = interleave(
+            &picture,
+            &band(Orientation::HL),
+            &band(Orientation::LH),
+            &band(Orientation::HH),
+        );
+        for filter_lines in [Grid::filter_columns, Grid::filter_rows] {
+            for step in filter.steps {
+                if !limits.allow(&picture, step) {
+                    return Err(Aside::Range);
+                }
+                filter_lines(&mut picture, std::slice::from_ref(step));
+            }
+        }
+        if picture.numbers.iter().any(|v| v.abs() > limits.numbers) {
+            return Err(Aside::Range);
+        }
+        if filter.shift == 1 {
+            picture.numbers.iter_mut().for_each(|v| *v = halve(*v));
+        }
+    }
+    Ok(picture)
+}
+
+/// The samples of a padded picture.
+fn cropped(p: &Parameters, picture: &Grid) -> Vec<i32> {
+    let sample = |x, y| i32::try_from(picture.get(x, y)).expect("within the limits");
+    (0..p.height as usize)
+        .flat_map(|y| (0..p.width as usize).map(move |x| sample(x, y)))
+        .collect()
+}
