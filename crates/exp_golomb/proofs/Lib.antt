@@ -3,3 +3,5 @@ pub mod BitLaws
 pub mod CodeLaws
 pub mod Extent
 pub mod Followed
+pub mod WindowLaws
+pub mod ShortCodes

@@ -1,3 +1,4 @@
 // Document 01, "Number codes": interleaved exp-Golomb codes.
 pub mod bits;
 pub mod codes;
+pub mod windows;

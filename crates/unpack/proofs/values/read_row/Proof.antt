@@ -1,31 +1,33 @@
--- `unpack::values::read_row` meets its contract: x turns are a walk of x values, and a value that is refused ends the walk.
+-- `unpack::values::read_row` meets its contract: at the loop's head the first x values are read, and a value that is refused ends the row.
 -- Assumes nothing.
 use mathlib.Core.Path.{_≡_, refl, sym, _∙_}
 use Prim.Native.Nat.{_+_, _-_, _≤_}
 use native.Mathlib.Omega.{arith}
 use borrow.Author.Needs.{needs}
 use lib.ListN.{length}
-use Rattle.base.specs.Walk.{walk}
-use Rattle.unpack.specs.Reading.{goesOn, value, row}
-use Rattle.unpack.proofs.Runs.{run-starts, run-goes-on, run-stops, value-stays}
+use Rattle.unpack.specs.Reading.{goesOn, row}
+use Rattle.unpack.proofs.ZeroRuns.{row-none, row-adds, row-ends}
 use Rattle.unpack.proofs.values.read_row.Statement.{statement}
 use Rattle.unpack.proofs.values.read_row.Tie as tie
 
 abbrev Inv-loop : tie.InvT-loop
 Inv-loop plane₀ place width bytes end at q bit₀ x₀ plane bit x =
-    (x ≤ width) × (length plane ≡ length plane₀) × (walk (λ k. value bytes end (q .index) (place + k)) 0 x (goesOn at plane₀) ≡ goesOn bit plane)
+    (x ≤ width) × (length plane ≡ length plane₀) × (row bytes end (q .index) place x (goesOn at plane₀) ≡ goesOn bit plane)
 
 abbrev μ-loop : tie.MeasureT-loop
 μ-loop plane₀ place width bytes end at q bit₀ x₀ plane bit x = width - x
 
 loop-holds : tie.Need-loop-holds Inv-loop μ-loop
-loop-holds c = (omega arith, refl, run-starts _ (λ k. value-stays _ _ _ (c .before .args .place + k)) _)
+loop-holds c = (omega arith, refl, row-none _ _ _ _ _)
 
-add-read-value : tie.Need-add-read-value Inv-loop μ-loop
-add-read-value c = omega arith
+add-read-some : tie.Need-add-read-some Inv-loop μ-loop
+add-read-some c = omega arith
 
-read-value-requires : tie.Need-read-value-requires Inv-loop μ-loop
-read-value-requires c κs = (omega arith, c .before .before .before .before .pre .1)
+sub-read-some : tie.Need-sub-read-some Inv-loop μ-loop
+sub-read-some c = omega arith
+
+read-some-requires : tie.Need-read-some-requires Inv-loop μ-loop
+read-some-requires c κs = (omega arith, omega arith, c .before .before .before .before .pre .1)
 
 enum-known-progress : tie.Need-enum-known-progress Inv-loop μ-loop
 enum-known-progress c = search needs
@@ -34,37 +36,35 @@ enum-told : tie.Need-enum-told Inv-loop μ-loop
 enum-told c = search needs
 
 same-length : tie.Need-same-length Inv-loop μ-loop
-same-length c = c .before .before .before .read-value .kept .0 ∙ c .before .before .before .before .before .before .loop .inv .1
+same-length c = c .before .before .before .read-some .kept .0 ∙ c .before .before .before .before .before .before .loop .inv .1
 
 returns : tie.Need-returns Inv-loop μ-loop
-unfolding row
 returns c =
     let head = c .before .before .before .before .before .before in
+    let some = c .before .before .before .read-some in
     let told = c .enum-told .given .1 in
     rw told
-    (sym (run-stops _ (λ k. value-stays _ _ _ (head .before .before .args .place + k)) _ (head .loop .x) _ _ _ _ (omega arith) (head .loop .inv .2)
-    (rw told at (c .before .before .before .read-value .ensures))))
+    (sym (row-ends _ _ _ _ (head .loop .x) (some .result .count) _ _ _ _ _ (omega (arith, some .ensures .1)) (head .loop .inv .2) (rw told at (some .ensures .2))))
 
 add-x : tie.Need-add-x Inv-loop μ-loop
-add-x c = omega arith
+add-x c = omega (arith, c .before .before .before .before .before .read-some .ensures .1)
 
 loop-less : tie.Need-loop-less Inv-loop μ-loop
-loop-less c = omega arith
+loop-less c = omega (arith, c .before .before .before .before .before .read-some .ensures .0, c .before .before .before .before .before .read-some .ensures .1)
 
 loop-again : tie.Need-loop-again Inv-loop μ-loop
 loop-again c =
-    let head = c .before .before .before .before .before .before .before in (
-      omega arith,
-      c .before .before .before .before .read-value .kept .0 ∙ head .loop .inv .1,
-      run-goes-on _ (λ k. value-stays _ _ _ (head .before .before .args .place + k)) _ (head .loop .x) _ _ (head .loop .inv .2)
-          (rw (c .before .progress .given .1) at (c .before .before .before .before .read-value .ensures)),
+    let head = c .before .before .before .before .before .before .before .before in
+    let some = c .before .before .before .before .before .read-some in (
+      omega (arith, some .ensures .1),
+      some .kept .0 ∙ head .loop .inv .1,
+      row-adds _ _ _ _ (head .loop .x) (some .result .count) _ _ _ (head .loop .inv .2) (rw (c .before .before .progress .given .1) at (some .ensures .2)),
     )
 
 same-length-2 : tie.Need-same-length-2 Inv-loop μ-loop
 same-length-2 c = c .before .loop .inv .1
 
 returns-2 : tie.Need-returns-2 Inv-loop μ-loop
-unfolding row
 returns-2 c =
     let all : c .before .loop .x ≡ c .before .before .before .args .width = omega arith in
     sym (rw all at (c .before .loop .inv .2))
@@ -76,8 +76,9 @@ read-row-spec =
     Inv-loop
     μ-loop
     loop-holds
-    add-read-value
-    read-value-requires
+    add-read-some
+    sub-read-some
+    read-some-requires
     enum-known-progress
     enum-told
     same-length
