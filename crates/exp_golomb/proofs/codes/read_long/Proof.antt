@@ -1,12 +1,10 @@
 -- `exp_golomb::codes::read_long` meets its contract: the sign bit is taken after a number that was read and is not 0.
 -- Assumes nothing.
-use mathlib.Core.Path.{_≡_, refl, sym, ap, _∙_}
+use mathlib.Core.Path.{sym, _∙_}
 use mathlib.Core.Logic.{⊎-elim}
-use mathlib.Core.Bool.{Bool}
-use Prim.Native.Nat.{ℕ}
 use native.Mathlib.Omega.{arith}
 use borrow.Author.Needs.{needs}
-use Rattle.exp_golomb.specs.Codes.{unsigned, signed, withSignBit}
+use Rattle.exp_golomb.specs.Codes.{signed}
 use Rattle.exp_golomb.proofs.CodeLaws.{sign-refused, sign-none, sign-missing, sign-read}
 use Rattle.exp_golomb.proofs.codes.read_long.Statement.{statement}
 use Rattle.exp_golomb.proofs.codes.read_long.Tie as tie

@@ -1,7 +1,6 @@
 -- `exp_golomb::windows::code_length` meets its contract: the rule was tested at each of the 256 numbers.
 -- Assumes nothing.
 use native.Mathlib.Omega.{arith}
-use mathlib.Core.Path.{_≡_}
 use Rattle.exp_golomb.proofs.WindowLaws.{length-zeros}
 use Rattle.exp_golomb.proofs.windows.code_length.Statement.{statement}
 use Rattle.exp_golomb.proofs.windows.code_length.Tie as tie

@@ -1,10 +1,9 @@
 -- `unpack::values::read_some` meets its contract: values that were read at once are a row of them, and so is one value.
 -- Assumes nothing.
 use mathlib.Core.Path.{_≡_, sym, ap, _∙_}
-use Prim.Native.Nat.{ℕ}
 use native.Mathlib.Omega.{arith}
 use borrow.Author.Needs.{needs}
-use Rattle.unpack.specs.Reading.{Run, goesOn, row}
+use Rattle.unpack.specs.Reading.{Run}
 use Rattle.unpack.proofs.ZeroRuns.{row-none, row-one}
 use Rattle.unpack.proofs.values.read_some.Statement.{statement}
 use Rattle.unpack.proofs.values.read_some.Tie as tie
