@@ -2,7 +2,7 @@
 -- Assumes nothing.
 use mathlib.Core.Path.{_≡_, refl, sym, ap, _∙_, subst}
 use mathlib.Core.Logic.{_≢_}
-use mathlib.Core.List.{List, [], _∷_}
+use mathlib.Core.List.{List}
 use Prim.Native.Nat.{ℕ, zero, suc, _+_, _-_, _<_}
 use native.Mathlib.Nat.{zero-add}
 use native.Mathlib.Numerals.{add-one}
@@ -76,15 +76,8 @@ fill-zeros l =
     let inside : i < length l = subst (λ (n : ℕ). i < n) (length-fill l 0 (λ k. pos 0) (length l)) h in
     getD-fill-start l (λ k. pos 0) (length l) i (pos 0) inside inside ∙ sym (getD-replicate (length l) i (pos 0) (pos 0) inside))
 
--- two lists of one length that agree at every place, whatever stands past the end
+-- a list made entry by entry
 module _ {ℓ} {A : Type ℓ} where
-  pub same-entries : (n : ℕ) (l₁ l₂ : List A) → length l₁ ≡ n → length l₂ ≡ n → ((i : ℕ) (e : A) → i < n → getD l₁ i e ≡ getD l₂ i e) → l₁ ≡ l₂
-  same-entries n [] [] h₁ h₂ each = refl
-  same-entries n [] (y ∷ ys) h₁ h₂ each = absurd (omega arith)
-  same-entries n (x ∷ xs) [] h₁ h₂ each = absurd (omega arith)
-  same-entries n (x ∷ xs) (y ∷ ys) h₁ h₂ each =
-      ext-getD x (x ∷ xs) (y ∷ ys) (h₁ ∙ sym h₂) (λ i h. each i x (omega arith))
-
   pub length-tabulate : (n : ℕ) (f : ℕ → A) → length (tabulate n f) ≡ n
   unfolding tabulate
   length-tabulate zero f = refl
@@ -95,12 +88,6 @@ module _ {ℓ} {A : Type ℓ} where
   getD-tabulate zero f i e h = absurd (omega arith)
   getD-tabulate (suc n) f zero e h = refl
   getD-tabulate (suc n) f (suc i) e h = getD-tabulate n (λ k. f (suc k)) i e (omega arith)
-
-  -- a list as long as n is filled whole
-  pub fill-tabulate : (l : List A) (f : ℕ → A) → fill l 0 (length l) f ≡ tabulate (length l) f
-  fill-tabulate l f =
-      same-entries (length l) (fill l 0 (length l) f) (tabulate (length l) f) (length-fill l 0 f (length l)) (length-tabulate (length l) f)
-      (λ i e h. getD-fill-start l f (length l) i e h h ∙ sym (getD-tabulate (length l) f i e h))
 
 -- zeros depend on the length alone
 pub zeros-length : (a b : List ℤ) → length a ≡ length b → zerosLike a ≡ zerosLike b

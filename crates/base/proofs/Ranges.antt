@@ -28,10 +28,6 @@ pub below-fits32 : (z : ℤ) → mag z < 2 ^ 31 → fits32 z ≡ true
 unfolding fits32
 below-fits32 z h = lt-ltb (mag z) (2 ^ 31) h
 
-pub above-fits32 : (z : ℤ) → 2 ^ 31 ≤ mag z → fits32 z ≡ false
-unfolding fits32
-above-fits32 z h = le-ltb (mag z) (2 ^ 31) h
-
 -- the range as the code tests it: from below, then from above
 pub fits32-upper : (z : ℤ) → leZ (negsuc 2147483647) z ≡ true → leZ z (pos 2147483647) ≡ fits32 z
 unfolding fits32

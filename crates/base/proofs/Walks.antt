@@ -20,11 +20,6 @@ module _ {ℓ} {S : Type ℓ} (f : ℕ → S → S) where
   walk-more i (suc n) s =
       walk-more (suc i) n (f i s) ∙ ap (λ (k : ℕ). f k (walk f (suc i) n (f i s))) (suc-add i n ∙ sym (add-suc i n))
 
-  -- the first step, and then the others
-  pub walk-first : (i n : ℕ) (s : S) → walk f i (suc n) s ≡ walk f (i + 1) n (f i s)
-  unfolding walk
-  walk-first i n s = ap (λ (k : ℕ). walk f k n (f i s)) (sym (add-one i))
-
   -- a state that every step leaves stays
   pub walk-stays : (i n : ℕ) (s : S) → ((k : ℕ) → f k s ≡ s) → walk f i n s ≡ s
   unfolding walk

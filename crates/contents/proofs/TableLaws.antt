@@ -8,7 +8,7 @@ use native.Mathlib.Numerals.{add-one}
 use native.Mathlib.Decide.{decLt}
 use native.Mathlib.Omega.{arith}
 use lib.Dec.{leb, eqb}
-use lib.ListN.{length, take, drop, getD, length-take, length-drop, List·getD-eq-default}
+use lib.ListN.{length, take, drop, getD, List·getD-eq-default}
 use borrow.Author.Tests.{leb-true, eqb-true, le-leb, lt-leb, eq-eqb, ne-eqb}
 use Rattle.base.specs.Every.{allBelow}
 use Rattle.base.proofs.Everys.{and-left, and-right, all-at}
@@ -204,19 +204,11 @@ module _ (file : List ℕ) where
         let all = all-at (entryIsRight file) (statedCount file) k (table-right .entries-right) stated-below in
         eqb-true (offsetAt file k) (bodyStart file k) (and-right bytes offset all)
 
-    -- its body is in the file, after the table
+    -- its body is in the file
     pub body-inside : bodyStart file k + lengthAt file k ≤ length file
     body-inside =
         let ends = bodies-in-order (k + 1) (statedCount file) (omega (arith, stated-below)) in
         omega (arith, next-body k, ends, table-right .last-ends)
-
-    pub body-after-table : entryPlace (entryCount file) ≤ bodyStart file k
-    body-after-table = omega (arith, first-body, bodies-in-order 0 k (omega arith), count-right (entry-right k below))
-
-    -- and as long as the entry says
-    pub body-length : length (body file k) ≡ lengthAt file k
-    unfolding body
-    body-length = simp (length-take, length-drop) (omega (arith, body-inside))
 
     -- so the part of the file that the entry names is the body
     module _ (e : Entry) (is : e ≡ entryAt file k) where
