@@ -1,24 +1,30 @@
 -- Where the rows of a picture stand in a plane: each inside it, apart from the others, and what a picture shows of a plane whose row was
 -- filled.
 -- Assumes nothing.
-use mathlib.Core.Path.{_≡_, sym}
+use mathlib.Core.Path.{_≡_, sym, ap, _∙_}
 use mathlib.Core.Logic.{_≢_}
 use mathlib.Core.Bool.{Bool, true, false}
 use mathlib.Core.List.{List}
-use Prim.Native.Nat.{ℕ, _+_, _*_, _≤_, _<_}
+use Prim.Native.Nat.{ℕ, suc, _+_, _*_, _^_, _≤_, _<_}
 use native.Mathlib.Omega.{arith}
 use lib.IntN.{ℤ, pos, _+ℤ_, _*ℤ_}
 use lib.ListN.{length, getD}
+use Rattle.base.specs.Every.{allBelow}
 use Rattle.base.specs.Fill.{fill}
-use Rattle.base.proofs.Fills.{getD-fill-in, getD-fill-out}
+use Rattle.base.specs.Range.{fits32}
+use Rattle.base.proofs.Everys.{all-same}
+use Rattle.base.proofs.Fills.{fill-same, getD-fill-in, getD-fill-out}
 use Rattle.base.proofs.Grids.{rows-apart}
+use Rattle.lines.specs.Buffers.{Within}
 use Rattle.lines.specs.Sums.{sumBelow, tapAt, changed}
 use Rattle.lifting.specs.Lifting.{rounding, lift}
 use Rattle.lifting.specs.Layout.{Placed, targetRow, sourceRow}
 use Rattle.lifting.specs.Planes.{pictureOf}
+use Rattle.lifting.specs.Reach.{reachOf, ColumnsReach}
 use Rattle.lifting.specs.Table.{stepOf}
 use Rattle.lifting.specs.declared.columns.Frame.{Frame}
 use Rattle.lifting.specs.declared.filters.LiftingStep.{LiftingStep}
+use Rattle.lifting.specs.declared.reach.Reach.{Reach}
 use Rattle.lines.proofs.SumLaws.{sum-same}
 use Rattle.lifting.proofs.Taps.{lift-at-target}
 
@@ -45,6 +51,22 @@ placed-same f plane₁ plane₂ placed same =
       inside = rw same (placed .inside);
     }
 
+-- a picture whose rows are all within a bound keeps to the reach of that bound
+both-reach : (reach : Reach) (even : Bool) (m : ℕ) → m ≤ reach .even → m ≤ reach .odd → m ≤ reachOf reach even
+unfolding reachOf
+both-reach reach true m he ho = he
+both-reach reach false m he ho = ho
+
+pub rows-reach :
+    (f : Frame) (reach : Reach) (plane : List ℤ) (m : ℕ) → reach .even ≡ m + 1 → reach .odd ≡ m + 1 → m < 2 ^ 32
+    → ((row : ℕ) → row < 2 * f .«band_rows» → Within plane (row * f .stride) (2 * f .«band_columns») (suc m))
+    → ColumnsReach f reach plane
+rows-reach f reach plane m even odd small rows = (
+  omega arith,
+  omega arith,
+  λ e k h x inside. both-reach reach e _ (omega (arith, rows (targetRow e k) (target-below e k _ h) x inside)) (omega (arith, rows (targetRow e k) (target-below e k _ h) x inside)),
+)
+
 module _ (stride : ℕ) (plane : List ℤ) (target width : ℕ) (f : ℕ → ℤ) (narrow : width ≤ stride) where
   -- the row that was filled
   pub filled-row : target * stride + width ≤ length plane → (x : ℕ) → x < width → pictureOf stride (fill plane (target * stride) width f) target x ≡ f x
@@ -58,22 +80,41 @@ module _ (stride : ℕ) (plane : List ℤ) (target width : ℕ) (f : ℕ → ℤ
       getD-fill-out plane (target * stride) f width (row * stride + x) (pos 0)
       (λ k below. rows-apart stride row target x k other (omega arith) (omega arith))
 
--- what the code makes of the row that a step changes in pair k, element by element
-pub lifted-row :
+-- What the code makes of the row that a step changes in pair k, from sums that were made either way.
+module _
     (r : LiftingStep) (b k stride width : ℕ) (plane sums : List ℤ) (places : List ℕ) (round : ℤ)
-    → ((t : ℕ) → t < r .count → getD places t 0 ≡ sourceRow (r .even) b (k + r .lead + t) * stride)
-    → round ≡ rounding (r .scale)
-    → ((x : ℕ) → x < width → getD sums x (pos 0) ≡ round +ℤ sumBelow (tapAt (r .taps) places plane x) (r .count))
-    → (x : ℕ) → x < width
-    → changed (r .adds) (r .scale) (getD plane (targetRow (r .even) k * stride + x) (pos 0)) (getD sums x (pos 0))
-    ≡ lift (stepOf r) (2 * b) (λ row. pictureOf stride plane row x) (targetRow (r .even) k)
-unfolding pictureOf tapAt
-lifted-row r b k stride width plane sums places round at rounded summed x h =
-    let picture : ℕ → ℤ = λ row. pictureOf stride plane row x in
-    let same =
-    sum-same (tapAt (r .taps) places plane x)
-    (λ t. getD (r .taps) t (pos 0) *ℤ picture (sourceRow (r .even) b (k + r .lead + t)))
-    (r .count)
-    (λ t below. rw (at t below))
-    in
-    rw (summed x h, rounded, same) (sym (lift-at-target r b k picture))
+    (at : (t : ℕ) → t < r .count → getD places t 0 ≡ sourceRow (r .even) b (k + r .lead + t) * stride)
+    (rounded : round ≡ rounding (r .scale))
+    (summed : (x : ℕ) → x < width → getD sums x (pos 0) ≡ round +ℤ sumBelow (tapAt (r .taps) places plane x) (r .count))
+  where
+    abbrev place : ℕ
+    place = targetRow (r .even) k * stride
+
+    abbrev new : ℕ → ℤ
+    new x = changed (r .adds) (r .scale) (getD plane (place + x) (pos 0)) (getD sums x (pos 0))
+
+    abbrev lifted : ℕ → ℤ
+    lifted x = lift (stepOf r) (2 * b) (λ row. pictureOf stride plane row x) (targetRow (r .even) k)
+
+    -- element by element
+    lifted-at : (x : ℕ) → x < width → new x ≡ lifted x
+    unfolding pictureOf tapAt
+    lifted-at x h =
+        let picture : ℕ → ℤ = λ row. pictureOf stride plane row x in
+        let same =
+        sum-same (tapAt (r .taps) places plane x)
+        (λ t. getD (r .taps) t (pos 0) *ℤ picture (sourceRow (r .even) b (k + r .lead + t)))
+        (r .count)
+        (λ t below. rw (at t below))
+        in
+        rw (summed x h, rounded, same) (sym (lift-at-target r b k picture))
+
+    -- the row: whether its new numbers fit, and what the plane is then
+    pub lifted-row :
+        (told : Bool) (plane' : List ℤ)
+        → told ≡ allBelow width (λ x. fits32 (new x)) → (told ≡ true → plane' ≡ fill plane place width new)
+        → (told ≡ allBelow width (λ x. fits32 (lifted x))) × (told ≡ true → plane' ≡ fill plane place width lifted)
+    lifted-row told plane' fits done = (
+      fits ∙ all-same _ _ width (λ x h. ap fits32 (lifted-at x h)),
+      λ yes. done yes ∙ fill-same plane place new lifted width lifted-at,
+    )

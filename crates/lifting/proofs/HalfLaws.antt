@@ -3,30 +3,33 @@
 use mathlib.Core.Path.{_≡_, sym, ap, _∙_}
 use mathlib.Core.Bool.{Bool, true, false, not, cond, _&&_, _||_, and-true}
 use mathlib.Core.List.{List}
-use Prim.Native.Nat.{ℕ, _+_, _-_, _*_, _/_, _%_, _≤_, _<_, min}
+use Prim.Native.Nat.{ℕ, suc, _+_, _-_, _*_, _/_, _%_, _^_, _≤_, _<_, min}
 use native.Mathlib.Nat.{add-zero}
 use native.Mathlib.Decide.{decLt}
 use native.Mathlib.Omega.{arith}
 use lib.Dec.{eqb}
-use lib.IntN.{ℤ, pos, _+ℤ_, _*ℤ_}
+use lib.IntN.{ℤ, pos, natAbs, _+ℤ_, _*ℤ_}
 use lib.ListN.{length, getD}
 use borrow.Author.Tests.{eq-eqb, ne-eqb}
 use Rattle.base.specs.Every.{allBelow}
 use Rattle.base.specs.Fill.{fill}
 use Rattle.base.specs.Range.{fits32}
-use Rattle.base.proofs.Everys.{all-same}
+use Rattle.base.proofs.Everys.{all-at, all-same}
 use Rattle.base.proofs.Fills.{getD-fill-in}
-use Rattle.lines.specs.Buffers.{heldEntry, woven}
+use Rattle.lines.specs.Buffers.{Within, heldEntry, woven}
 use Rattle.lines.specs.Sums.{sumBelow, tapAt, changed}
 use Rattle.lines.proofs.BufferLaws.{woven-even, woven-odd}
 use Rattle.lifting.specs.Lifting.{Line, rounding, changes, lift}
 use Rattle.lifting.specs.Passes.{rows, run, newFit, assigns}
 use Rattle.lifting.specs.Layout.{targetRow, sourceRow, halfPlace}
+use Rattle.lifting.specs.Reach.{staysSmall, targetAfter, reachOf, reachAfter, HalvesReach}
 use Rattle.lifting.specs.Table.{typeOf, stepOf, Sane}
 use Rattle.lifting.specs.declared.filters.LiftingStep.{LiftingStep}
+use Rattle.lifting.specs.declared.reach.Reach.{Reach}
 use Rattle.lifting.proofs.Lifts.{lift-keeps}
 use Rattle.lines.proofs.SumLaws.{sum-same}
 use Rattle.lifting.proofs.Taps.{type-says, lift-at-target}
+use Rattle.lifting.proofs.ReachLaws.{product-fits, new-fits, after-size, after-most, after-even, after-odd}
 use Rattle.lifting.proofs.RowLaws.{all-pairs}
 
 -- an even place, and an odd one
@@ -113,11 +116,14 @@ unfolding targetRow
 new-target true adds fit k = rw (changes-even true adds k, changes-odd true adds k, add-zero (2 * k)) (and-true (fit (2 * k)))
 new-target false adds fit k = rw (changes-even false adds k, changes-odd false adds k)
 
--- The number that a step gives to entry k of the half that it changes.
+-- What tap t of a step reads for entry k of the half that the step changes, and the number that it gives to that entry.
+abbrev pub readEntry : LiftingStep → ℕ → List ℤ → ℕ → ℕ → ℤ
+readEntry r b source k t = getD source (heldEntry b (r .lead + t + k)) (pos 0)
+
 abbrev pub newEntry : LiftingStep → ℕ → List ℤ → List ℤ → ℕ → ℤ
 newEntry r b target source k =
     changed (r .adds) (r .scale) (getD target (4 + k) (pos 0))
-    (rounding (r .scale) +ℤ sumBelow (λ t. getD (r .taps) t (pos 0) *ℤ getD source (heldEntry b (r .lead + t + k)) (pos 0)) (r .count))
+    (rounding (r .scale) +ℤ sumBelow (λ t. getD (r .taps) t (pos 0) *ℤ readEntry r b source k t) (r .count))
 
 module _ (r : LiftingStep) (b : ℕ) where
   -- the new numbers of a step, pair by pair
@@ -129,7 +135,7 @@ module _ (r : LiftingStep) (b : ℕ) where
 
   module _ (target source : List ℤ) where
     -- what a tap reads for entry k
-    read-entry : (k t : ℕ) → wovenBy (r .even) target source (sourceRow (r .even) b (k + r .lead + t)) ≡ getD source (heldEntry b (r .lead + t + k)) (pos 0)
+    read-entry : (k t : ℕ) → wovenBy (r .even) target source (sourceRow (r .even) b (k + r .lead + t)) ≡ readEntry r b source k t
     read-entry k t =
         let order : k + r .lead + t ≡ r .lead + t + k = omega arith in
         rw order (woven-source (r .even) target source b (r .lead + t + k))
@@ -192,46 +198,19 @@ halves-copied b place work low high low' high' lows highs even odd =
     woven-odd low' high' k
     ∙ rw (odd, half-odd b k, ← order) (getD-fill-in high 4 (λ k. getD work (place + b + k) (pos 0)) b k (pos 0) inside (omega arith)))
 
+-- a half copied to its buffer is within the bound that was measured
+pub half-measured :
+    (b place m : ℕ) (work line line' : List ℤ) → 4 + b ≤ length line → line' ≡ fill line 4 b (λ k. getD work (place + k) (pos 0))
+    → Within work place b (suc m) → Within line' 4 b (m + 1)
+half-measured b place m work line line' room copied within k inside =
+    rw (copied, getD-fill-in line 4 (λ k. getD work (place + k) (pos 0)) b k (pos 0) inside (omega arith)) (omega (arith, within k inside))
+
 -- the place of a column lies in its row
 pub half-inside : (b x : ℕ) → x < 2 * b → halfPlace b x < 2 * b
 half-inside b = by-parity (λ x. halfPlace b x < 2 * b) b (λ k h. rw (half-even b k) (omega arith)) (λ k h. rw (half-odd b k) (omega arith))
 
--- The half that is read with its ends repeated, and the sums of the taps over it.
-module _
-    (r : LiftingStep) (b : ℕ) (target source extended sums : List ℤ) (places : List ℕ) (sane : Sane r)
-    (ends : (s : ℕ) → s < b + 8 → getD extended s (pos 0) ≡ getD source (heldEntry b s) (pos 0))
-    (placed : (t : ℕ) → t < 8 → getD places t 0 ≡ r .lead + t)
-    (summed :
-    (x : ℕ) → x < b → getD sums x (pos 0) ≡ rounding (r .scale) +ℤ sumBelow (tapAt (r .taps) places extended x) (r .count))
-  where
-    -- what a tap adds
-    tap-same : (k t : ℕ) → k < b → t < r .count → tapAt (r .taps) places extended k t ≡ getD (r .taps) t (pos 0) *ℤ getD source (heldEntry b (r .lead + t + k)) (pos 0)
-    unfolding tapAt
-    tap-same k t inside h =
-        rw (placed t (omega (arith, sane .few-taps)), ends (r .lead + t + k) (omega (arith, sane .near)))
-
-    -- what a sum makes of entry k
-    entry-same : (k : ℕ) → k < b → changed (r .adds) (r .scale) (getD target (4 + k) (pos 0)) (getD sums k (pos 0)) ≡ newEntry r b target source k
-    entry-same k inside = rw (summed k inside, sum-same (tapAt (r .taps) places extended k) _ (r .count) (λ t h. tap-same k t inside h))
-
-    -- whether the new entries fit
-    pub half-told :
-        allBelow b (λ k. fits32 (changed (r .adds) (r .scale) (getD target (4 + k) (pos 0)) (getD sums k (pos 0))))
-        ≡ allBelow b (λ k. fits32 (newEntry r b target source k))
-    half-told = all-same _ (λ k. fits32 (newEntry r b target source k)) b (λ k inside. rw (entry-same k inside))
-
-    -- the half with them
-    pub half-done :
-        (target' : List ℤ) → 4 + b ≤ length target
-        → target' ≡ fill target 4 b (λ k. changed (r .adds) (r .scale) (getD target (4 + k) (pos 0)) (getD sums k (pos 0)))
-        → (k : ℕ) → k < b → getD target' (4 + k) (pos 0) ≡ newEntry r b target source k
-    half-done target' room new k inside =
-        rw new
-        (getD-fill-in target 4 (λ k. changed (r .adds) (r .scale) (getD target (4 + k) (pos 0)) (getD sums k (pos 0))) b k (pos 0) inside (omega arith))
-        ∙ entry-same k inside
-
 -- the entries of a half stay where its ends are repeated
-pub half-kept :
+half-kept :
     (b : ℕ) (source extended : List ℤ)
     → ((s : ℕ) → s < b + 8 → getD extended s (pos 0) ≡ getD source (heldEntry b s) (pos 0))
     → (k : ℕ) → k < b → getD extended (4 + k) (pos 0) ≡ getD source (4 + k) (pos 0)
@@ -239,3 +218,97 @@ unfolding heldEntry
 half-kept b source extended ends k inside =
     let here : 4 + min (4 + k - 4) (b - 1) ≡ 4 + k = omega arith in
     ends (4 + k) (omega arith) ∙ rw here
+
+-- What lifting one half by the other leaves: whether the new entries fit, and where they do the half with them, the other half as it was, and
+-- the bound that the new entries are within.
+abbrev pub HalfLifted : LiftingStep → ℕ → ℕ → ℕ → List ℤ → List ℤ → Bool → List ℤ → List ℤ → Type 0
+HalfLifted r b m most target source answer target' source' =
+    (answer ≡ allBelow b (λ k. fits32 (newEntry r b target source k)))
+    × ((answer ≡ true → (k : ℕ) → k < b → getD target' (4 + k) (pos 0) ≡ newEntry r b target source k)
+    × (((k : ℕ) → k < b → getD source' (4 + k) (pos 0) ≡ getD source (4 + k) (pos 0)) × (answer ≡ true → Within target' 4 b (targetAfter r m most))))
+
+-- What is known before the sums of a step are made: the half that is read has its ends repeated, the taps' places start at the lead, and both
+-- halves are within their bounds.
+pub record HalfRead (r : LiftingStep) (b m most : ℕ) (target source extended : List ℤ) (places : List ℕ) : Type 0 where
+  pub sane : Sane r
+  pub some : 1 ≤ b
+  pub ends : (s : ℕ) → s < b + 8 → getD extended s (pos 0) ≡ getD source (heldEntry b s) (pos 0)
+  pub placed : (t : ℕ) → t < 8 → getD places t 0 ≡ r .lead + t
+  pub targets : Within target 4 b most
+  pub sources : Within source 4 b m
+
+module _
+    {r : LiftingStep} {b m most : ℕ} {target source extended : List ℤ} {places : List ℕ} (read : HalfRead r b m most target source extended places)
+  where
+    -- what a tap adds, and the bound of what it reads
+    tap-same : (k t : ℕ) → k < b → t < r .count → tapAt (r .taps) places extended k t ≡ getD (r .taps) t (pos 0) *ℤ readEntry r b source k t
+    unfolding tapAt
+    tap-same k t inside h =
+        rw (read .placed t (omega (arith, read .sane .few-taps)), read .ends (r .lead + t + k) (omega (arith, read .sane .near)))
+
+    read-within : (k t : ℕ) → natAbs (readEntry r b source k t) ≤ m
+    unfolding heldEntry
+    read-within k t = read .sources (min (r .lead + t + k - 4) (b - 1)) (omega (arith, read .some))
+
+    -- where the step stays small, each tap leaves room for the others
+    pub half-product :
+        staysSmall r m most ≡ true → (t k : ℕ) → t < r .count → k < b
+        → r .count * natAbs (tapAt (r .taps) places extended k t) + natAbs (rounding (r .scale)) < 2 ^ 31
+    half-product stays t k h inside =
+        rw (tap-same k t inside h) (product-fits r (read .sane) m most t (readEntry r b source k t) stays h (read-within k t))
+
+    -- The sums of the taps over it.
+    module _
+        (sums : List ℤ)
+        (summed : (x : ℕ) → x < b → getD sums x (pos 0) ≡ rounding (r .scale) +ℤ sumBelow (tapAt (r .taps) places extended x) (r .count))
+      where
+        -- what a sum makes of entry k
+        entry-same : (k : ℕ) → k < b → changed (r .adds) (r .scale) (getD target (4 + k) (pos 0)) (getD sums k (pos 0)) ≡ newEntry r b target source k
+        entry-same k inside = rw (summed k inside, sum-same (tapAt (r .taps) places extended k) _ (r .count) (λ t h. tap-same k t inside h))
+
+        -- the new entries fit where the step stays small
+        pub half-fits :
+            staysSmall r m most ≡ true → (k : ℕ) → k < b
+            → fits32 (changed (r .adds) (r .scale) (getD target (4 + k) (pos 0)) (getD sums k (pos 0))) ≡ true
+        half-fits stays k inside =
+            rw (entry-same k inside)
+            (new-fits r (read .sane) m (readEntry r b source k) (λ t h. read-within k t) (getD target (4 + k) (pos 0)) most (read .targets k inside) stays)
+
+        -- the half with the new entries, where they fit
+        module _
+            (answer : Bool) (target' : List ℤ) (room : 4 + b ≤ length target)
+            (told : answer ≡ allBelow b (λ k. fits32 (changed (r .adds) (r .scale) (getD target (4 + k) (pos 0)) (getD sums k (pos 0)))))
+            (new :
+            answer ≡ true → target' ≡ fill target 4 b (λ k. changed (r .adds) (r .scale) (getD target (4 + k) (pos 0)) (getD sums k (pos 0))))
+          where
+            half-told : answer ≡ allBelow b (λ k. fits32 (newEntry r b target source k))
+            half-told = told ∙ all-same _ (λ k. fits32 (newEntry r b target source k)) b (λ k inside. rw (entry-same k inside))
+
+            half-done : answer ≡ true → (k : ℕ) → k < b → getD target' (4 + k) (pos 0) ≡ newEntry r b target source k
+            half-done fits k inside =
+                rw (new fits)
+                (getD-fill-in target 4 (λ k. changed (r .adds) (r .scale) (getD target (4 + k) (pos 0)) (getD sums k (pos 0))) b k (pos 0) inside (omega arith))
+                ∙ entry-same k inside
+
+            -- they are within the bound that the step leaves
+            half-within : answer ≡ true → Within target' 4 b (targetAfter r m most)
+            half-within fits k inside =
+                rw (half-done fits k inside)
+                (after-size r (read .sane) m (readEntry r b source k) (λ t h. read-within k t) (getD target (4 + k) (pos 0)) most (read .targets k inside)
+                (all-at (λ k. fits32 (newEntry r b target source k)) b k (sym half-told ∙ fits) inside))
+
+            pub half-lifted : HalfLifted r b m most target source answer target' extended
+            half-lifted = (half-told, (half-done, (half-kept b source extended (read .ends), half-within)))
+
+-- the reach of a row's halves after a step: the half that it changes is within the bound that it leaves, and the other is as it was
+pub reach-halves :
+    (r : LiftingStep) (b : ℕ) (even : Bool) → r .even ≡ even → (reach : Reach) (source target' source' : List ℤ)
+    → reachOf reach (not even) ≤ 2 ^ 32 → Within source 4 b (reachOf reach (not even))
+    → ((k : ℕ) → k < b → getD source' (4 + k) (pos 0) ≡ getD source (4 + k) (pos 0))
+    → Within target' 4 b (targetAfter r (reachOf reach (not even)) (reachOf reach even))
+    → HalvesReach b (reachAfter r reach) (cond even target' source') (cond even source' target')
+unfolding reachOf
+reach-halves r b true same reach source target' source' most sources kept targets =
+    rw (after-even r reach same) (omega (arith, after-most r (reach .odd) (reach .even)), most, targets, λ k h. rw (kept k h) (sources k h))
+reach-halves r b false same reach source target' source' most sources kept targets =
+    rw (after-odd r reach same) (most, omega (arith, after-most r (reach .even) (reach .odd)), λ k h. rw (kept k h) (sources k h), targets)

@@ -3,6 +3,7 @@ pub mod Lifts
 pub mod PassLaws
 pub mod Taps
 pub mod TableLaws
+pub mod ReachLaws
 pub mod Frames
 pub mod PairLaws
 pub mod RowLaws

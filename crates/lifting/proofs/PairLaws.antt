@@ -3,25 +3,28 @@
 -- Assumes nothing.
 use mathlib.Core.Path.{_≡_, refl, sym, ap, _∙_, subst}
 use mathlib.Core.Logic.{_≢_}
-use mathlib.Core.Bool.{Bool, true, false, cond}
+use mathlib.Core.Bool.{Bool, true, false, not, cond}
 use Prim.Native.Nat.{ℕ, _+_, _-_, _*_, _/_, _%_, _^_, _≤_, _<_, min}
 use native.Mathlib.Decide.{decLt}
 use native.Mathlib.Omega.{arith}
 use borrow.Author.Tests.{eqb-true, ne-eqb}
 use lib.Dec.{eqb}
-use lib.IntN.{natAbs}
+use lib.IntN.{ℤ, natAbs}
 use Rattle.base.specs.Every.{allBelow}
 use Rattle.base.specs.Range.{fits32}
 use Rattle.base.proofs.Everys.{all-at, all-from, all-same, same-test}
 use Rattle.lifting.specs.Lifting.{changes, lift}
 use Rattle.lifting.specs.Layout.{Agree, targetRow, sourceRow}
 use Rattle.lifting.specs.Passes.{Picture, columns, run, assigns, newFit}
-use Rattle.lifting.specs.Table.{stepOf}
+use Rattle.lifting.specs.Reach.{reachOf, sourceReach, targetReach, reachAfter}
+use Rattle.lifting.specs.Table.{stepOf, Sane}
 use Rattle.lifting.specs.declared.filters.LiftingStep.{LiftingStep}
+use Rattle.lifting.specs.declared.reach.Reach.{Reach}
 use Rattle.lifting.proofs.Lifts.{EvenLength, lift-at, lift-keeps}
-use Rattle.lifting.proofs.PassLaws.{new-each, new-all}
+use Rattle.lifting.proofs.PassLaws.{new-each, new-all, run-keeps}
 use Rattle.lifting.proofs.Frames.{target-below, source-below}
-use Rattle.lifting.proofs.Taps.{type-says, target-changes}
+use Rattle.lifting.proofs.Taps.{type-says, target-changes, lift-at-target}
+use Rattle.lifting.proofs.ReachLaws.{after-size, target-reach-after, source-reach-after}
 
 -- twice a number that is not 0 is an even length
 pub twice-length : (b : ℕ) → 1 ≤ b → EvenLength (2 * b)
@@ -42,6 +45,17 @@ source-other : (even : Bool) (b s : ℕ) → eqb (sourceRow even b s % 2) (cond 
 unfolding sourceRow
 source-other true b s = let m = min (s - 4) (b - 1) in ne-eqb ((2 * m + 1) % 2) 0 (λ e. omega arith)
 source-other false b s = let m = min (s - 4) (b - 1) in ne-eqb ((2 * m + 0) % 2) 1 (λ e. omega arith)
+
+-- it is the target of a pair, of a step on the other places
+source-target : (even : Bool) (b s : ℕ) → sourceRow even b s ≡ targetRow (not even) (min (s - 4) (b - 1))
+unfolding sourceRow targetRow
+source-target true b s = refl
+source-target false b s = refl
+
+target-source : (even : Bool) (b k : ℕ) → k < b → targetRow (not even) k ≡ sourceRow even b (k + 4)
+target-source even b k h =
+    let held : k ≡ min (k + 4 - 4) (b - 1) = omega arith in
+    ap (targetRow (not even)) held ∙ sym (source-target even b (k + 4))
 
 module _ (r : LiftingStep) where
   -- a step changes the targets of the pairs, and no other rows
@@ -96,16 +110,15 @@ module _ (r : LiftingStep) (b w : ℕ) (P : Picture) where
         ≡ allBelow w (λ column. fits32 (run (2 * b) w (columns (stepOf r)) P (targetRow (r .even) k) column))
     fits-now = all-same _ _ w (λ column inside. ap fits32 (lift-now column inside))
 
-    -- where the picture was small, the rows that pair k is made from and of still are
-    module _ (small : (row : ℕ) → row < 2 * b → (column : ℕ) → column < w → natAbs (P row column) ≤ 2 ^ 16) where
-      pub small-source : (s column : ℕ) → column < w → natAbs (Q (sourceRow (r .even) b s) column) ≤ 2 ^ 16
-      small-source s column inside =
-          let row = source-below (r .even) b s some in
-          rw (partly .kept (sourceRow (r .even) b s) column row inside (source-kept r b s)) (small (sourceRow (r .even) b s) row column inside)
+    -- the rows that pair k is made from and of keep to the bounds that the picture kept to
+    module _ (most : Bool → ℕ) (bound : (even : Bool) (j : ℕ) → j < b → (column : ℕ) → column < w → natAbs (P (targetRow even j) column) ≤ most even) where
+      pub source-bound : (s column : ℕ) → column < w → natAbs (Q (sourceRow (r .even) b s) column) ≤ most (not (r .even))
+      source-bound s column inside =
+          rw (partly .kept (sourceRow (r .even) b s) column (source-below (r .even) b s some) inside (source-kept r b s), source-target (r .even) b s)
+          (bound (not (r .even)) (min (s - 4) (b - 1)) (omega arith) column inside)
 
-      pub small-target : (column : ℕ) → column < w → natAbs (Q (targetRow (r .even) k) column) ≤ 2 ^ 16
-      small-target column inside =
-          rw (partly .todo k column (omega arith) now inside) (small (targetRow (r .even) k) (target-below (r .even) k b now) column inside)
+      pub target-bound : (column : ℕ) → column < w → natAbs (Q (targetRow (r .even) k) column) ≤ most (r .even)
+      target-bound column inside = rw (partly .todo k column (omega arith) now inside) (bound (r .even) k now column inside)
 
     -- one pair more
     pub partly-more :
@@ -153,3 +166,43 @@ new-rows r b w R =
     let at = changed-target r row changed in
     let ofPair = all-at (λ j. allBelow w (λ column. fits32 (R (targetRow (r .even) j) column))) b (row / 2) all (omega arith) in
     rw at (all-at (λ column. fits32 (R (targetRow (r .even) (row / 2)) column)) w column ofPair inside)))
+
+-- a rule for the places that a step changes and for the others holds for both
+each-parity : (changed : Bool) (R : Bool → Type 0) → R changed → R (not changed) → (even : Bool) → R even
+each-parity true R this other true = this
+each-parity true R this other false = other
+each-parity false R this other true = other
+each-parity false R this other false = this
+
+-- After a step whose new numbers fit, the picture keeps to the reach after it.
+module _
+    (r : LiftingStep) (sane : Sane r) (b w : ℕ) (reach : Reach) (P : Picture)
+    (bound : (even : Bool) (k : ℕ) → k < b → (column : ℕ) → column < w → natAbs (P (targetRow even k) column) ≤ reachOf reach even)
+    (fit : newFit (2 * b) w (columns (stepOf r)) (run (2 * b) w (columns (stepOf r)) P) ≡ true)
+  where
+    abbrev after : Picture
+    after = run (2 * b) w (columns (stepOf r)) P
+
+    changed-bound : (k : ℕ) → k < b → (column : ℕ) → column < w → natAbs (after (targetRow (r .even) k) column) ≤ targetReach r (reachAfter r reach)
+    unfolding run assigns
+    changed-bound k h column inside =
+        let line : ℕ → ℤ = λ row. P row column in
+        let fits = new-each (2 * b) w (columns (stepOf r)) after fit (targetRow (r .even) k) column (target-below (r .even) k b h) inside (target-changed r k) in
+        rw (target-reach-after r reach, lift-at-target r b k line)
+        (after-size r sane (sourceReach r reach) (λ t. line (sourceRow (r .even) b (k + r .lead + t)))
+        (λ t below. rw (source-target (r .even) b (k + r .lead + t)) (bound (not (r .even)) (min (k + r .lead + t - 4) (b - 1)) (omega arith) column inside))
+        (line (targetRow (r .even) k)) (targetReach r reach) (bound (r .even) k h column inside)
+        (rw (lift-at-target r b k line) at fits))
+
+    kept-bound : (k : ℕ) → k < b → (column : ℕ) → column < w → natAbs (after (targetRow (not (r .even)) k) column) ≤ sourceReach r (reachAfter r reach)
+    unfolding assigns
+    kept-bound k h column inside =
+        let kept = rw (← target-source (r .even) b k h) at (source-kept r b (k + 4)) in
+        rw (source-reach-after r reach, run-keeps (2 * b) w (columns (stepOf r)) P (targetRow (not (r .even)) k) column kept) (bound (not (r .even)) k h column inside)
+
+    pub after-bound :
+        (even : Bool) (k : ℕ) → k < b → (column : ℕ) → column < w
+        → natAbs (run (2 * b) w (columns (stepOf r)) P (targetRow even k) column) ≤ reachOf (reachAfter r reach) even
+    after-bound =
+        each-parity (r .even) (λ even. (k : ℕ) → k < b → (column : ℕ) → column < w → natAbs (after (targetRow even k) column) ≤ reachOf (reachAfter r reach) even)
+        changed-bound kept-bound

@@ -9,7 +9,7 @@ use native.Mathlib.Omega.{arith}
 use lib.Dec.{leb, eqb, lit≤}
 use lib.IntN.{ℤ, pos, negsuc, natAbs}
 use lib.ListN.{getD}
-use lib.Pow.{pow-lt}
+use lib.Pow.{pow-lt, pow-mono}
 use mir.Syntax.{w64}
 use mir.Val.{toZ, ofZ}
 use borrow.Author.Tests.{leb-true, eqb-true, ne-eqb}
@@ -20,7 +20,7 @@ use Rattle.base.proofs.Magnitudes.{mag-size}
 use Rattle.base.proofs.Ranges.{back}
 use Rattle.lifting.specs.Lifting.{Step, rounding}
 use Rattle.lifting.specs.Filters.{filterOf}
-use Rattle.lifting.specs.Table.{stepOf, Sane}
+use Rattle.lifting.specs.Table.{stepOf, gainOf, Sane}
 use Rattle.lifting.specs.declared.filters.LiftingStep.{LiftingStep}
 
 -- a number below two, four or seven is one of them
@@ -67,7 +67,9 @@ saneTest r =
     && (leb (r .scale) 12 && allBelow 8 (λ t. leb (natAbs (getD (r .taps) t (pos 0))) (2 ^ 13)))
     && (leb 1 (r .count) && (eqb (r .count) 1 || eqb (r .count) (2 * (r .count / 2))))
     && allBelow (r .count) (λ t. sameInt (getD (r .taps) (r .count - 1 - t) (pos 0)) (getD (r .taps) t (pos 0)))
-    && allBelow (r .count) (λ t. leb (r .count * natAbs (getD (r .taps) t (pos 0))) (2 ^ 14))
+    && allBelow (r .count) (λ t. leb 1 (natAbs (getD (r .taps) t (pos 0))))
+    && (eqb (r .gain) (gainOf (stepOf r)) && leb (r .gain) (2 ^ 14))
+    && allBelow (r .count) (λ t. leb (r .count * natAbs (getD (r .taps) t (pos 0))) (r .gain))
 
 -- what it says
 sane : (r : LiftingStep) → saneTest r ≡ true → Sane r
@@ -77,8 +79,13 @@ sane r e =
     let sizes = leb (r .scale) 12 && allBelow 8 (λ t. leb (natAbs (getD (r .taps) t (pos 0))) (2 ^ 13)) in
     let pairs = leb 1 count && (eqb count 1 || eqb count (2 * (count / 2))) in
     let mirror : ℕ → Bool = λ t. sameInt (getD (r .taps) (count - 1 - t) (pos 0)) (getD (r .taps) t (pos 0)) in
-    let gain : ℕ → Bool = λ t. leb (count * natAbs (getD (r .taps) t (pos 0))) (2 ^ 14) in
-    let first = and-left (ends && sizes && pairs && allBelow count mirror) (allBelow count gain) e in
+    let real : ℕ → Bool = λ t. leb 1 (natAbs (getD (r .taps) t (pos 0))) in
+    let gain = eqb (r .gain) (gainOf (stepOf r)) && leb (r .gain) (2 ^ 14) in
+    let covers : ℕ → Bool = λ t. leb (count * natAbs (getD (r .taps) t (pos 0))) (r .gain) in
+    let gains = and-left (ends && sizes && pairs && allBelow count mirror && allBelow count real && gain) (allBelow count covers) e in
+    let taps = and-left (ends && sizes && pairs && allBelow count mirror && allBelow count real) gain gains in
+    let gained = and-right (ends && sizes && pairs && allBelow count mirror && allBelow count real) gain gains in
+    let first = and-left (ends && sizes && pairs && allBelow count mirror) (allBelow count real) taps in
     let second = and-left (ends && sizes && pairs) (allBelow count mirror) first in
     let third = and-left (ends && sizes) pairs second in
     let front = and-left ends sizes third in
@@ -98,7 +105,10 @@ sane r e =
             let b = getD (r .taps) t (pos 0) in
             same-int a b (eqb-true _ _ (and-left (eqb (natAbs a) (natAbs b)) _ both)) (eqb-true _ _ (and-right (eqb (natAbs a) (natAbs b)) _ both)),
       );
-      small-gain = λ t h. leb-true _ (2 ^ 14) (all-at gain count t (and-right (ends && sizes && pairs && allBelow count mirror) (allBelow count gain) e) h);
+      real-taps = λ t h. leb-true 1 _ (all-at real count t (and-right (ends && sizes && pairs && allBelow count mirror) (allBelow count real) taps) h);
+      gain-exact = eqb-true (r .gain) (gainOf (stepOf r)) (and-left (eqb (r .gain) (gainOf (stepOf r))) _ gained);
+      gain-most = leb-true (r .gain) (2 ^ 14) (and-right (eqb (r .gain) (gainOf (stepOf r))) _ gained);
+      gain-covers = λ t h. leb-true _ (r .gain) (all-at covers count t (and-right (ends && sizes && pairs && allBelow count mirror && allBelow count real && gain) (allBelow count covers) e) h);
     }
 
 -- An entry of the table is step k of the filter of a wavelet index, and its sizes are in their bounds: how that is shown, and what it says.
@@ -130,10 +140,10 @@ unfolding rounding
 rounding-small zero h = lit≤ tt
 rounding-small (suc s) h = omega (arith, power-small s h)
 
-pub rounding-slight : (s : ℕ) → s ≤ 12 → natAbs (rounding s) ≤ 2 ^ 12
+pub rounding-slight : (s : ℕ) → s ≤ 12 → natAbs (rounding s) ≤ 2 ^ 11
 unfolding rounding
 rounding-slight zero h = lit≤ tt
-rounding-slight (suc s) h = omega (arith, power-small s h)
+rounding-slight (suc s) h = pow-mono {i = s} {j = 11} (omega arith)
 
 pub rounding-back : (s : ℕ) (z : ℤ) → s ≤ 12 → z ≡ rounding s → toZ w64 (ofZ w64 z) ≡ rounding s
 rounding-back s z h e = rw e (back w64 (rounding s) (omega (arith, mag-size (rounding s), rounding-small s h)))

@@ -4,3 +4,4 @@ pub mod Passes
 pub mod Planes
 pub mod Table
 pub mod Layout
+pub mod Reach

@@ -1,9 +1,11 @@
 -- The table of steps as the code holds it, and the step that each row of it stands for. The rows are the code's own form; the filters that
 -- they are tied to stand in Filters.antt.
-use Prim.Native.Nat.{ℕ, _+_, _*_, _^_, _≤_, _<_}
+use mathlib.Core.Path.{_≡_}
+use Prim.Native.Nat.{ℕ, _+_, _*_, _^_, _≤_, _<_, max}
 use mathlib.Core.Bool.{Bool, true, false, cond}
-use lib.IntN.{pos, _-ℤ_, natAbs}
-use lib.ListN.{getD, take}
+use mathlib.Core.List.{List, [], _∷_}
+use lib.IntN.{ℤ, pos, _-ℤ_, natAbs}
+use lib.ListN.{length, getD, take}
 use Rattle.lines.specs.Buffers.{Symmetric}
 use Rattle.lifting.specs.Lifting.{Step, StepType, type1, type2, type3, type4}
 use Rattle.lifting.specs.declared.filters.LiftingStep.{LiftingStep}
@@ -25,8 +27,16 @@ stepOf r =
       scale = r .scale;
     }
 
--- The sizes that keep a step's sums within 64 bits, over small numbers within 32, and its reads within a line buffer; and that its taps are one,
--- or the same from both ends.
+-- The gain of a step: how many taps it has, times the size of the largest.
+unfoldable pub largest : List ℤ → ℕ
+largest [] = 0
+largest (t ∷ ts) = max (natAbs t) (largest ts)
+
+unfoldable pub gainOf : Step → ℕ
+gainOf s = length (s .taps) * largest (s .taps)
+
+-- The sizes that keep a step's sums within 64 bits, and its reads within a line buffer; that its taps are one, or the same from both ends; and
+-- that its gain is that of its taps.
 pub record Sane (r : LiftingStep) : Type 0 where
   pub few-taps : r .count ≤ 8
   pub near : r .lead + r .count ≤ 9
@@ -34,4 +44,7 @@ pub record Sane (r : LiftingStep) : Type 0 where
   pub small-taps : (t : ℕ) → t < 8 → natAbs (getD (r .taps) t (pos 0)) ≤ 2 ^ 13
   pub some-taps : 1 ≤ r .count
   pub symmetric : Symmetric (r .taps) (r .count)
-  pub small-gain : (t : ℕ) → t < r .count → r .count * natAbs (getD (r .taps) t (pos 0)) ≤ 2 ^ 14
+  pub gain-covers : (t : ℕ) → t < r .count → r .count * natAbs (getD (r .taps) t (pos 0)) ≤ r .gain
+  pub gain-exact : r .gain ≡ gainOf (stepOf r)
+  pub gain-most : r .gain ≤ 2 ^ 14
+  pub real-taps : (t : ℕ) → t < r .count → 1 ≤ natAbs (getD (r .taps) t (pos 0))

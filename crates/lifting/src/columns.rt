@@ -2,23 +2,26 @@
 ghost use mathlib.Core.Path.{_≡_};
 ghost use mathlib.Core.Bool.{true};
 ghost use mathlib.Core.List.{map};
-ghost use Prim.Native.Nat.{ℕ, _+_, _*_, _^_, _≤_, _<_};
+ghost use Prim.Native.Nat.{ℕ, suc, _+_, _*_, _^_, _≤_, _<_};
 ghost use lib.ListN.{length, getD};
 ghost use Rattle.base.specs.Every.{allBelow};
 ghost use Rattle.base.specs.Fill.{fill};
 ghost use Rattle.base.specs.Range.{fits32};
-ghost use Rattle.lines.specs.Buffers.{SmallAt};
+ghost use Rattle.lines.specs.Buffers.{Within};
 ghost use Rattle.lifting.specs.Lifting.{lift};
 ghost use Rattle.lifting.specs.Filters.{filterOf};
 ghost use Rattle.lifting.specs.Passes.{columns, run, runAll, newFit, allNewFit};
 ghost use Rattle.lifting.specs.Planes.{pictureOf};
 ghost use Rattle.lifting.specs.Table.{stepOf, Sane};
 ghost use Rattle.lifting.specs.Layout.{Agree, Placed, targetRow, sourceRow};
+ghost use Rattle.lifting.specs.Reach.{sourceReach, targetReach, reachAfter, ColumnsReach};
 use crate::filters::LiftingStep;
 use crate::filters::rounding_of;
 use crate::filters::step_at;
 use crate::filters::step_count;
-use lines::small::is_small;
+use crate::reach::Reach;
+use crate::reach::reach_after;
+use crate::reach::step_stays_small;
 use lines::small::lift_small;
 use lines::small::sum_small;
 use lines::sums::lift_line;
@@ -31,78 +34,74 @@ pub struct Frame {
     pub band_columns: usize,
 }
 
-// Runs the steps of a filter on every column of the picture. False where a new number is outside 32 bits; then the plane's numbers are of
-// no use.
+// Runs the steps of a filter on every column of the picture, whose numbers are at most `most` + 1 in size. False where a new number is
+// outside 32 bits; then the plane's numbers are of no use.
 pub fn filter_columns(
     work: &mut [i32],
     sums: &mut [i32; 4096],
     frame: Frame,
     wavelet: usize,
+    most: u32,
 ) -> bool
     requires { ⌜ Placed frame (now work) × (wavelet ≤ 6) ⌝ }
+    requires { ⌜ ((row : ℕ) → row < 2 * frame .«band_rows» → Within (now work) (row * frame .stride) (2 * frame .«band_columns») (suc most)) ⌝ }
     ensures told { λ r. ⌜ r ≡ allNewFit (2 * frame .«band_rows») (2 * frame .«band_columns») (map columns (filterOf wavelet .steps)) (pictureOf (frame .stride) (now (work .entry))) ⌝ }
     ensures done { λ r. ⌜ (r ≡ true → Agree (2 * frame .«band_rows») (2 * frame .«band_columns») (pictureOf (frame .stride) (now (work .exit))) (runAll (2 * frame .«band_rows») (2 * frame .«band_columns») (map columns (filterOf wavelet .steps)) (pictureOf (frame .stride) (now (work .entry))))) ⌝ }
 {
     let count = step_count(wavelet);
+    let size = most as u64 + 1;
+    let mut reach = Reach {
+        even: size,
+        odd: size,
+    };
     let mut k = 0;
     while k < count {
         let step = step_at(wavelet, k);
-        if !lift_columns(work, sums, frame, step) {
+        if !lift_columns(work, sums, frame, step, reach) {
             return false;
         }
+        reach = reach_after(step, reach);
         k += 1;
     }
     true
 }
 
-// Runs one step on every column of the picture: in 32 bits where all its numbers are small.
-fn lift_columns(work: &mut [i32], sums: &mut [i32; 4096], frame: Frame, step: LiftingStep) -> bool
-    requires { ⌜ Placed frame (now work) × Sane step ⌝ }
+// Runs one step on every column of the picture, whose numbers keep to a reach.
+fn lift_columns(
+    work: &mut [i32],
+    sums: &mut [i32; 4096],
+    frame: Frame,
+    step: LiftingStep,
+    reach: Reach,
+) -> bool
+    requires { ⌜ Placed frame (now work) × Sane step × ColumnsReach frame reach (now work) ⌝ }
     ensures told { λ r. ⌜ r ≡ newFit (2 * frame .«band_rows») (2 * frame .«band_columns») (columns (stepOf step)) (run (2 * frame .«band_rows») (2 * frame .«band_columns») (columns (stepOf step)) (pictureOf (frame .stride) (now (work .entry)))) ⌝ }
     ensures done { λ r. ⌜ (r ≡ true → Agree (2 * frame .«band_rows») (2 * frame .«band_columns») (pictureOf (frame .stride) (now (work .exit))) (run (2 * frame .«band_rows») (2 * frame .«band_columns») (columns (stepOf step)) (pictureOf (frame .stride) (now (work .entry))))) ⌝ }
+    ensures bounded { λ r. ⌜ (r ≡ true → ColumnsReach frame (reachAfter step reach) (now (work .exit))) ⌝ }
 {
-    let small = is_picture_small(work, frame);
     let pairs = frame.band_rows;
     let mut k = 0;
     while k < pairs {
-        if !lift_row(work, sums, frame, k, step, small) {
+        if !lift_row(work, sums, frame, k, step, reach) {
             return false;
         }
         k += 1;
-    }
-    true
-}
-
-// Whether the numbers of the picture are small.
-fn is_picture_small(work: &[i32], frame: Frame) -> bool
-    requires { ⌜ Placed frame (now work) ⌝ }
-    ensures { λ r. ⌜ (r ≡ true → (row : ℕ) → row < 2 * frame .«band_rows» → SmallAt (now (work .entry)) (row * frame .stride) (2 * frame .«band_columns»)) ⌝ }
-{
-    let width = 2 * frame.band_columns;
-    let stride = frame.stride;
-    let height = 2 * frame.band_rows;
-    let mut row = 0;
-    while row < height {
-        if !is_small(work, row * stride, width) {
-            return false;
-        }
-        row += 1;
     }
     true
 }
 
 // Runs one step on one element of every column: the row of pair k that the step changes. In 32 bits where that row and those that are read
-// are said to be small.
+// are so small that it stays within them.
 fn lift_row(
     work: &mut [i32],
     sums: &mut [i32; 4096],
     frame: Frame,
     k: usize,
     step: LiftingStep,
-    small: bool,
+    reach: Reach,
 ) -> bool
-    requires { ⌜ Placed frame (now work) × Sane step × (k < frame .«band_rows») ⌝ }
-    requires { ⌜ (small ≡ true → ((s : ℕ) → SmallAt (now work) (sourceRow (step .even) (frame .«band_rows») s * frame .stride) (2 * frame .«band_columns»)) × SmallAt (now work) (targetRow (step .even) k * frame .stride) (2 * frame .«band_columns»)) ⌝ }
+    requires { ⌜ Placed frame (now work) × Sane step × (k < frame .«band_rows») × (reach .even ≤ 2 ^ 32) × (reach .odd ≤ 2 ^ 32) ⌝ }
+    requires { ⌜ ((s : ℕ) → Within (now work) (sourceRow (step .even) (frame .«band_rows») s * frame .stride) (2 * frame .«band_columns») (sourceReach step reach)) × Within (now work) (targetRow (step .even) k * frame .stride) (2 * frame .«band_columns») (targetReach step reach) ⌝ }
     ensures told { λ r. ⌜ r ≡ allBelow (2 * frame .«band_columns») (λ c. fits32 (lift (stepOf step) (2 * frame .«band_rows») (λ r. pictureOf (frame .stride) (now (work .entry)) r c) (targetRow (step .even) k))) ⌝ }
     ensures done { λ r. ⌜ (r ≡ true → now (work .exit) ≡ fill (now (work .entry)) (targetRow (step .even) k * frame .stride) (2 * frame .«band_columns») (λ c. lift (stepOf step) (2 * frame .«band_rows») (λ r. pictureOf (frame .stride) (now (work .entry)) r c) (targetRow (step .even) k))) ⌝ }
 {
@@ -111,7 +110,7 @@ fn lift_row(
     let taps = step.taps;
     let round = rounding_of(step.scale);
     let target = target_row(step.even, k) * frame.stride;
-    if small {
+    if step_stays_small(step, reach) {
         sum_small(sums, work, width, &taps, &places, step.count, round);
         lift_small(work, target, sums, width, step.scale, step.adds);
         return true;

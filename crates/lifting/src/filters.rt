@@ -6,8 +6,9 @@ ghost use Rattle.lifting.specs.Lifting.{rounding};
 ghost use Rattle.lifting.specs.Filters.{filterOf};
 ghost use Rattle.lifting.specs.Table.{stepOf, Sane};
 
-// A lifting step: whether it changes the even places, whether it adds, its first offset, its taps and its scale. The first offset D is
-// counted from −3 where even places change and from −4 where odd ones do, so that it is never below 0.
+// A lifting step: whether it changes the even places, whether it adds, its first offset, its taps and its scale; and its gain, which is its
+// count of taps times the size of its largest. The first offset D is counted from −3 where even places change and from −4 where odd ones
+// do, so that it is never below 0.
 pub struct LiftingStep {
     pub even: bool,
     pub adds: bool,
@@ -15,6 +16,7 @@ pub struct LiftingStep {
     pub taps: [i64; 8],
     pub count: usize,
     pub scale: u32,
+    pub gain: u64,
 }
 
 // A filter: where its steps start in the table, how many it has, and whether its shift is 1.
@@ -70,6 +72,7 @@ const STEPS: [LiftingStep; 14] = [
         taps: [1, 1, 0, 0, 0, 0, 0, 0],
         count: 2,
         scale: 2,
+        gain: 2,
     },
     LiftingStep {
         even: false,
@@ -78,6 +81,7 @@ const STEPS: [LiftingStep; 14] = [
         taps: [-1, 9, 9, -1, 0, 0, 0, 0],
         count: 4,
         scale: 4,
+        gain: 36,
     },
     LiftingStep {
         even: true,
@@ -86,6 +90,7 @@ const STEPS: [LiftingStep; 14] = [
         taps: [1, 1, 0, 0, 0, 0, 0, 0],
         count: 2,
         scale: 2,
+        gain: 2,
     },
     LiftingStep {
         even: false,
@@ -94,6 +99,7 @@ const STEPS: [LiftingStep; 14] = [
         taps: [1, 1, 0, 0, 0, 0, 0, 0],
         count: 2,
         scale: 1,
+        gain: 2,
     },
     LiftingStep {
         even: true,
@@ -102,6 +108,7 @@ const STEPS: [LiftingStep; 14] = [
         taps: [-1, 9, 9, -1, 0, 0, 0, 0],
         count: 4,
         scale: 5,
+        gain: 36,
     },
     LiftingStep {
         even: false,
@@ -110,6 +117,7 @@ const STEPS: [LiftingStep; 14] = [
         taps: [-1, 9, 9, -1, 0, 0, 0, 0],
         count: 4,
         scale: 4,
+        gain: 36,
     },
     LiftingStep {
         even: true,
@@ -118,6 +126,7 @@ const STEPS: [LiftingStep; 14] = [
         taps: [1, 0, 0, 0, 0, 0, 0, 0],
         count: 1,
         scale: 1,
+        gain: 1,
     },
     LiftingStep {
         even: false,
@@ -126,6 +135,7 @@ const STEPS: [LiftingStep; 14] = [
         taps: [1, 0, 0, 0, 0, 0, 0, 0],
         count: 1,
         scale: 0,
+        gain: 1,
     },
     LiftingStep {
         even: false,
@@ -134,6 +144,7 @@ const STEPS: [LiftingStep; 14] = [
         taps: [-2, 10, -25, 81, 81, -25, 10, -2],
         count: 8,
         scale: 8,
+        gain: 648,
     },
     LiftingStep {
         even: true,
@@ -142,6 +153,7 @@ const STEPS: [LiftingStep; 14] = [
         taps: [-8, 21, -46, 161, 161, -46, 21, -8],
         count: 8,
         scale: 8,
+        gain: 1288,
     },
     LiftingStep {
         even: true,
@@ -150,6 +162,7 @@ const STEPS: [LiftingStep; 14] = [
         taps: [1817, 1817, 0, 0, 0, 0, 0, 0],
         count: 2,
         scale: 12,
+        gain: 3634,
     },
     LiftingStep {
         even: false,
@@ -158,6 +171,7 @@ const STEPS: [LiftingStep; 14] = [
         taps: [3616, 3616, 0, 0, 0, 0, 0, 0],
         count: 2,
         scale: 12,
+        gain: 7232,
     },
     LiftingStep {
         even: true,
@@ -166,6 +180,7 @@ const STEPS: [LiftingStep; 14] = [
         taps: [217, 217, 0, 0, 0, 0, 0, 0],
         count: 2,
         scale: 12,
+        gain: 434,
     },
     LiftingStep {
         even: false,
@@ -174,6 +189,7 @@ const STEPS: [LiftingStep; 14] = [
         taps: [6497, 6497, 0, 0, 0, 0, 0, 0],
         count: 2,
         scale: 12,
+        gain: 12994,
     },
 ];
 

@@ -3,13 +3,13 @@
 ghost use mathlib.Core.Path.{_≡_};
 ghost use mathlib.Core.Bool.{true};
 ghost use mathlib.Core.List.{map};
-ghost use Prim.Native.Nat.{ℕ, _+_, _*_, _≤_, _<_};
+ghost use Prim.Native.Nat.{ℕ, _+_, _*_, _^_, _≤_, _<_};
 ghost use lib.IntN.{pos, _+ℤ_, _*ℤ_};
 ghost use lib.ListN.{length, getD};
 ghost use Rattle.base.specs.Every.{allBelow};
 ghost use Rattle.base.specs.Fill.{fill};
 ghost use Rattle.base.specs.Range.{fits32};
-ghost use Rattle.lines.specs.Buffers.{SmallAt, heldEntry, woven, shifted};
+ghost use Rattle.lines.specs.Buffers.{Within, heldEntry, woven, shifted};
 ghost use Rattle.lines.specs.Sums.{sumBelow, changed};
 ghost use Rattle.lifting.specs.Lifting.{lift, rounding};
 ghost use Rattle.lifting.specs.Filters.{filterOf};
@@ -17,16 +17,19 @@ ghost use Rattle.lifting.specs.Passes.{rows, run, runAll, newFit, allNew
 ghost use Rattle.lifting.specs.Planes.{pictureOf};
 ghost use Rattle.lifting.specs.Table.{stepOf, Sane};
 ghost use Rattle.lifting.specs.Layout.{Agree, Placed, halfPlace, halvesOf};
+ghost use Rattle.lifting.specs.Reach.{HalvesReach, targetAfter, reachAfter};
 use crate::columns::Frame;
 use crate::filters::LiftingStep;
 use crate::filters::has_shift;
 use crate::filters::rounding_of;
 use crate::filters::step_at;
 use crate::filters::step_count;
-use base::plane;
+use crate::reach::Reach;
+use crate::reach::reach_after;
+use crate::reach::stays_small;
 use lines::buffers::extend;
 use lines::buffers::weave;
-use lines::small::is_small;
+use lines::measures::copy_measured;
 use lines::small::lift_small;
 use lines::small::sum_small;
 use lines::sums::lift_line;
@@ -75,34 +78,42 @@ fn filter_row(
     ensures done { λ r. ⌜ (r ≡ true → now (work .exit) ≡ fill (now (work .entry)) place (2 * half) (λ x. shifted (filterOf wavelet .shift) (runAll 1 (2 * half) (map rows (filterOf wavelet .steps)) (λ row k. getD (now (work .entry)) (place + halfPlace half k) (pos 0)) 0 x))) ⌝ }
     ensures fit { λ r. ⌜ (r ≡ true → (x : ℕ) → x < 2 * half → fits32 (shifted (filterOf wavelet .shift) (runAll 1 (2 * half) (map rows (filterOf wavelet .steps)) (λ row k. getD (now (work .entry)) (place + halfPlace half k) (pos 0)) 0 x)) ≡ true) ⌝ }
 {
-    plane::copy(low, 4, work, place, half);
-    plane::copy(high, 4, work, place + half, half);
-    if !filter_halves(low, high, sums, half, wavelet) {
+    let low_most = copy_measured(low, 4, work, place, half) as u64;
+    let high_most = copy_measured(high, 4, work, place + half, half) as u64;
+    let reach = Reach {
+        even: low_most + 1,
+        odd: high_most + 1,
+    };
+    if !filter_halves(low, high, sums, half, wavelet, reach) {
         return false;
     }
     weave(work, place, low, high, half, has_shift(wavelet));
     true
 }
 
-// Runs the steps of a filter on a row whose even places stand in one line buffer and whose odd places in another.
+// Runs the steps of a filter on a row whose even places stand in one line buffer and whose odd places in another, each within its reach.
 fn filter_halves(
     low: &mut [i32; 2056],
     high: &mut [i32; 2056],
     sums: &mut [i32; 4096],
     half: usize,
     wavelet: usize,
+    first: Reach,
 ) -> bool
     requires { ⌜ (1 ≤ half) × (half ≤ 2048) × (wavelet ≤ 6) ⌝ }
+    requires { ⌜ HalvesReach half first (now low) (now high) ⌝ }
     ensures told { λ r. ⌜ r ≡ allNewFit 1 (2 * half) (map rows (filterOf wavelet .steps)) (λ row. woven (now (low .entry)) (now (high .entry))) ⌝ }
     ensures done { λ r. ⌜ (r ≡ true → (x : ℕ) → x < 2 * half → woven (now (low .exit)) (now (high .exit)) x ≡ runAll 1 (2 * half) (map rows (filterOf wavelet .steps)) (λ row. woven (now (low .entry)) (now (high .entry))) 0 x) ⌝ }
 {
     let count = step_count(wavelet);
+    let mut reach = first;
     let mut k = 0;
     while k < count {
         let step = step_at(wavelet, k);
-        if !lift_halves(low, high, sums, half, step) {
+        if !lift_halves(low, high, sums, half, step, reach) {
             return false;
         }
+        reach = reach_after(step, reach);
         k += 1;
     }
     true
@@ -115,36 +126,43 @@ fn lift_halves(
     sums: &mut [i32; 4096],
     half: usize,
     step: LiftingStep,
+    reach: Reach,
 ) -> bool
     requires { ⌜ (1 ≤ half) × (half ≤ 2048) × Sane step ⌝ }
+    requires { ⌜ HalvesReach half reach (now low) (now high) ⌝ }
     ensures told { λ r. ⌜ r ≡ newFit 1 (2 * half) (rows (stepOf step)) (run 1 (2 * half) (rows (stepOf step)) (λ row. woven (now (low .entry)) (now (high .entry)))) ⌝ }
     ensures done { λ r. ⌜ (r ≡ true → (x : ℕ) → x < 2 * half → woven (now (low .exit)) (now (high .exit)) x ≡ lift (stepOf step) (2 * half) (woven (now (low .entry)) (now (high .entry))) x) ⌝ }
+    ensures bounded { λ r. ⌜ (r ≡ true → HalvesReach half (reachAfter step reach) (now (low .exit)) (now (high .exit))) ⌝ }
 {
     if step.even {
-        lift_half(low, high, sums, half, step)
+        lift_half(low, high, sums, half, step, reach.even, reach.odd)
     } else {
-        lift_half(high, low, sums, half, step)
+        lift_half(high, low, sums, half, step, reach.odd, reach.even)
     }
 }
 
-// Lifts one half of a row by the other, whose ends are repeated first. In 32 bits where both are small.
+// Lifts one half of a row by the other, whose ends are repeated first: in 32 bits where the sizes of their numbers allow it.
 fn lift_half(
     target: &mut [i32; 2056],
     source: &mut [i32; 2056],
     sums: &mut [i32; 4096],
     half: usize,
     step: LiftingStep,
+    target_most: u64,
+    source_most: u64,
 ) -> bool
     requires { ⌜ (1 ≤ half) × (half ≤ 2048) × Sane step ⌝ }
+    requires { ⌜ («target_most» ≤ 2 ^ 32) × («source_most» ≤ 2 ^ 32) × Within (now target) 4 half «target_most» × Within (now source) 4 half «source_most» ⌝ }
     ensures told { λ r. ⌜ r ≡ allBelow half (λ k. fits32 (changed (step .adds) (step .scale) (getD (now (target .entry)) (4 + k) (pos 0)) (rounding (step .scale) +ℤ sumBelow (λ t. getD (step .taps) t (pos 0) *ℤ getD (now (source .entry)) (heldEntry half (step .lead + t + k)) (pos 0)) (step .count)))) ⌝ }
     ensures done { λ r. ⌜ (r ≡ true → (k : ℕ) → k < half → getD (now (target .exit)) (4 + k) (pos 0) ≡ changed (step .adds) (step .scale) (getD (now (target .entry)) (4 + k) (pos 0)) (rounding (step .scale) +ℤ sumBelow (λ t. getD (step .taps) t (pos 0) *ℤ getD (now (source .entry)) (heldEntry half (step .lead + t + k)) (pos 0)) (step .count))) ⌝ }
     ensures kept { λ _. ⌜ ((k : ℕ) → k < half → getD (now (source .exit)) (4 + k) (pos 0) ≡ getD (now (source .entry)) (4 + k) (pos 0)) ⌝ }
+    ensures bounded { λ r. ⌜ (r ≡ true → Within (now (target .exit)) 4 half (targetAfter step «source_most» «target_most»)) ⌝ }
 {
     extend(source, half);
     let places = line_places(step.lead);
     let taps = step.taps;
     let round = rounding_of(step.scale);
-    if are_small(target, source, half) {
+    if stays_small(step, source_most, target_most) {
         sum_small(sums, source, half, &taps, &places, step.count, round);
         lift_small(target, 4, sums, half, step.scale, step.adds);
         return true;
@@ -152,17 +170,6 @@ fn lift_half(
     let mut exact = [0i64; 4096];
     sum_taps(&mut exact, source, half, &taps, &places, step.count, round);
     lift_line(target, 4, &exact, half, step.scale, step.adds)
-}
-
-// Whether the numbers of a half are small, and those of the other with its repeated ends.
-fn are_small(target: &[i32; 2056], source: &[i32; 2056], half: usize) -> bool
-    requires { ⌜ half ≤ 2048 ⌝ }
-    ensures { λ r. ⌜ (r ≡ true → SmallAt (now (target .entry)) 4 half × SmallAt (now (source .entry)) 0 (half + 8)) ⌝ }
-{
-    if !is_small(target, 4, half) {
-        return false;
-    }
-    is_small(source, 0, half + 8)
 }
 
 // Where eight taps start in a line buffer, the first one at the lead.

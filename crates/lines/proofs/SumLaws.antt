@@ -6,7 +6,7 @@ use mathlib.Core.List.{List}
 use Prim.Native.Nat.{ℕ, zero, suc, _+_, _-_, _*_, _/_, _^_, _≤_, _<_}
 use native.Mathlib.Numerals.{add-one}
 use native.Mathlib.Decide.{decLt}
-use native.Mathlib.Nat.{suc-mul}
+use native.Mathlib.Nat.{suc-mul, mul-comm, mul-le-mul-right, mul-div-le, le-div-iff-mul-le}
 use native.Mathlib.Omega.{arith}
 use lib.IntN.{ℤ, pos, natAbs, _+ℤ_, _-ℤ_, _*ℤ_, negsuc, +ℤ-idl, +ℤ-idr, +ℤ-assoc, +ℤ-comm, zero-*ℤ, sucℤ-*ℤ, *ℤ-comm, *ℤ-negsuc, negℤ, negℤ-+ℤ}
 use lib.ListN.{length, getD, List·getD-eq-default}
@@ -16,7 +16,7 @@ use Rattle.base.specs.Floor.{floorDiv}
 use Rattle.base.specs.Range.{fits32}
 use Rattle.base.proofs.Fills.{length-fill, getD-fill-start}
 use Rattle.base.proofs.Ranges.{below-fits32}
-use Rattle.base.proofs.Magnitudes.{mag-size, size-mag, size-add, size-sub, size-mul-most, size-floor}
+use Rattle.base.proofs.Magnitudes.{mag-size, size-mag, size-add, size-sub, size-mul, size-mul-most, size-floor}
 use Rattle.lines.specs.Buffers.{Below}
 use Rattle.lines.specs.Sums.{sumBelow, changed}
 
@@ -62,39 +62,6 @@ pub sum-more : (r : ℤ) (f : ℕ → ℤ) (n : ℕ) → (r +ℤ sumBelow f n) +
 unfolding sumBelow
 sum-more r f n = rw (add-one n) (+ℤ-assoc r (sumBelow f n) (f n))
 
--- a small number with a quotient of a sum of small products added or subtracted fits 32 bits
-module _ (v sum : ℤ) (hv : natAbs v ≤ 2 ^ 16) (hs : natAbs sum ≤ 2 ^ 30 + 2 ^ 12) where
-  pub added-fits : (d : ℕ) → mag (v +ℤ floorDiv sum d) < 2 ^ 31
-  added-fits d = omega (arith, mag-size (v +ℤ floorDiv sum d), size-add v (floorDiv sum d), size-floor sum d)
-
-  pub subtracted-fits : (d : ℕ) → mag (v -ℤ floorDiv sum d) < 2 ^ 31
-  subtracted-fits d = omega (arith, mag-size (v -ℤ floorDiv sum d), size-sub v (floorDiv sum d), size-floor sum d)
-
-  pub changed-fits : (adds : Bool) (scale : ℕ) → fits32 (changed adds scale v sum) ≡ true
-  unfolding changed
-  changed-fits true scale = below-fits32 (v +ℤ floorDiv sum (2 ^ scale)) (added-fits (2 ^ scale))
-  changed-fits false scale = below-fits32 (v -ℤ floorDiv sum (2 ^ scale)) (subtracted-fits (2 ^ scale))
-
--- a tap times a small number, and added to a sum that leaves room for it
-pub small-product : (tap v : ℤ) → natAbs v ≤ 2 ^ 16 → natAbs (tap *ℤ v) ≤ natAbs tap * 2 ^ 16
-small-product tap v h = size-mul-most tap v (natAbs tap) (2 ^ 16) (omega arith) h
-
--- the sum of two small numbers, and a tap times it
-pub both-small : (a b : ℤ) → natAbs a ≤ 2 ^ 16 → natAbs b ≤ 2 ^ 16 → natAbs (a +ℤ b) ≤ 2 ^ 17
-both-small a b ha hb = omega (arith, size-add a b)
-
-pub both-fits : (a b : ℤ) → natAbs a ≤ 2 ^ 16 → natAbs b ≤ 2 ^ 16 → mag (a +ℤ b) < 2 ^ 31
-both-fits a b ha hb = omega (arith, mag-size (a +ℤ b), both-small a b ha hb)
-
-pub pair-product : (tap a b : ℤ) → natAbs a ≤ 2 ^ 16 → natAbs b ≤ 2 ^ 16 → natAbs (tap *ℤ (a +ℤ b)) ≤ natAbs tap * 2 ^ 17
-pair-product tap a b ha hb = size-mul-most tap (a +ℤ b) (natAbs tap) (2 ^ 17) (omega arith) (both-small a b ha hb)
-
-pub small-fits : (p : ℤ) (room : ℕ) → natAbs p ≤ room → room < 2 ^ 31 → mag p < 2 ^ 31
-small-fits p room h less = omega (arith, mag-size p)
-
-pub small-sum-fits : (s p : ℤ) (room : ℕ) → natAbs p ≤ room → natAbs s + room < 2 ^ 31 → mag (s +ℤ p) < 2 ^ 31
-small-sum-fits s p room h less = omega (arith, mag-size (s +ℤ p), size-add s p)
-
 -- a product with a sum is the sum of the products: with a natural number, and with any
 four-terms : (a b c d : ℤ) → (a +ℤ b) +ℤ (c +ℤ d) ≡ (a +ℤ c) +ℤ (b +ℤ d)
 four-terms a b c d =
@@ -120,6 +87,21 @@ spread (negsuc n) a b =
     ∙ ap negℤ (pos-spread (suc n) a b)
     ∙ negℤ-+ℤ (pos (suc n) *ℤ a) (pos (suc n) *ℤ b)
     ∙ sym (rw (minus-times n a, minus-times n b) refl)
+
+-- a number is no larger than a tap times it, and a tap times a sum no larger than the two products
+pub tap-size : (tap a : ℤ) → 1 ≤ natAbs tap → natAbs a ≤ natAbs (tap *ℤ a)
+tap-size tap a some =
+    let once : 1 * natAbs a ≤ natAbs tap * natAbs a = mul-le-mul-right (natAbs a) some in
+    rw (size-mul tap a) (omega arith)
+
+pub pair-size : (tap a b : ℤ) → natAbs (tap *ℤ (a +ℤ b)) ≤ natAbs (tap *ℤ a) + natAbs (tap *ℤ b)
+pair-size tap a b = rw (spread tap a b) (size-add (tap *ℤ a) (tap *ℤ b))
+
+pub times-one : (z : ℤ) → pos 1 *ℤ z ≡ z
+times-one z = sucℤ-*ℤ (pos 0) z ∙ rw (zero-*ℤ z) (+ℤ-idl z)
+
+pub slight : (z : ℤ) → natAbs z < 2 ^ 31 → fits32 z ≡ true
+slight z h = below-fits32 z (omega (arith, mag-size z))
 
 -- sums of the same numbers
 pub sum-same : (f g : ℕ → ℤ) (n : ℕ) → ((i : ℕ) → i < n → f i ≡ g i) → sumBelow f n ≡ sumBelow g n
@@ -156,32 +138,39 @@ around-none f m r = sym (+ℤ-idr r)
 pub around-all : (f : ℕ → ℤ) (m : ℕ) → around f m m ≡ sumBelow f (2 * m)
 around-all f m = sum-same (λ i. f (m - m + i)) f (2 * m) (λ i h. ap f (omega arith))
 
--- A pair's share of 2^30, where there are as many pairs: what a pair adds is no more, and leaves room.
-abbrev pub share : ℕ → ℕ
-share half = 2 ^ 30 / half
+-- A sum of numbers of a bounded size.
+pub sum-below : (f : ℕ → ℤ) (n q : ℕ) → ((i : ℕ) → i < n → natAbs (f i) ≤ q) → natAbs (sumBelow f n) ≤ n * q
+unfolding sumBelow
+sum-below f zero q small = omega arith
+sum-below f (suc n) q small = omega (arith, suc-mul n q, size-add (sumBelow f n) (f n), sum-below f n q (λ i h. small i (omega arith)), small n (omega arith))
 
-pub pair-share : (half a : ℕ) → 1 ≤ half → half ≤ 4 → 2 * half * a ≤ 2 ^ 14 → a * 2 ^ 17 ≤ share half
-pair-share zero a some few h = absurd (omega arith)
-pair-share (suc zero) a some few h = omega arith
-pair-share (suc (suc zero)) a some few h = omega arith
-pair-share (suc (suc (suc zero))) a some few h = omega arith
-pair-share (suc (suc (suc (suc zero)))) a some few h = omega arith
-pair-share (suc (suc (suc (suc (suc n))))) a some few h = absurd (omega arith)
+-- What is left of a whole beside r, in c equal shares: a number that c times fits there is no larger than a share, and c shares fit.
+abbrev pub share : ℕ → ℕ → ℕ → ℕ
+share whole c r = (whole - r) / c
 
-pub all-shares : (half j : ℕ) → 1 ≤ half → half ≤ 4 → j ≤ half → j * share half ≤ 2 ^ 30
-all-shares zero j some few h = absurd (omega arith)
-all-shares (suc zero) j some few h = omega arith
-all-shares (suc (suc zero)) j some few h = omega arith
-all-shares (suc (suc (suc zero))) j some few h = omega arith
-all-shares (suc (suc (suc (suc zero)))) j some few h = omega arith
-all-shares (suc (suc (suc (suc (suc n))))) j some few h = absurd (omega arith)
+pub keeps-share : (whole c r a : ℕ) → 1 ≤ c → c * a + r ≤ whole → a ≤ share whole c r
+keeps-share whole c r a some h = le-div-iff-mul-le {k = c} {x = a} {y = whole - r} some .1 (rw (mul-comm a c) (omega arith))
 
-pub next-share : (j q : ℕ) → (j + 1) * q ≡ j * q + q
-next-share j q = rw (add-one j) (suc-mul j q)
+pub shares-fit : (whole c r n : ℕ) → n ≤ c → r ≤ whole → r + n * share whole c r ≤ whole
+shares-fit whole c r n few h =
+    let most : n * share whole c r ≤ c * share whole c r = mul-le-mul-right (share whole c r) few in
+    omega (arith, mul-div-le (whole - r) c)
 
--- a tap that keeps to its share is slight, and a slight number fits 32 bits
-pub tap-slight : (half a : ℕ) → 1 ≤ half → half ≤ 4 → 2 * half * a ≤ 2 ^ 14 → a ≤ 2 ^ 14
-tap-slight half a some few h = omega (arith, pair-share half a some few h, all-shares half 1 some few (omega arith))
+-- One pair more around the middle of c = 2 * half numbers, each of which c times leaves room for r below 2^31: it fits, and what it makes of the sum.
+module _ (f : ℕ → ℤ) (half j : ℕ) (inside : j < half) where
+  pub pair-room : (r : ℕ) → ((t : ℕ) → t < 2 * half → 2 * half * natAbs (f t) + r < 2 ^ 31)
+      → r + natAbs (around f half j) + (natAbs (f (half - 1 - j)) + natAbs (f (half + j))) < 2 ^ 31
+  pair-room r small =
+      let q : ℕ = share (2 ^ 31 - 1) (2 * half) r in
+      let each : (t : ℕ) → t < 2 * half → natAbs (f t) ≤ q = λ t h. keeps-share (2 ^ 31 - 1) (2 * half) r (natAbs (f t)) (omega arith) (omega (arith, small t h)) in
+      let middle : natAbs (around f half j) ≤ 2 * j * q = sum-below (λ i. f (half - j + i)) (2 * j) q (λ i h. each (half - j + i) (omega arith)) in
+      let most : r + suc (suc (2 * j)) * q ≤ 2 ^ 31 - 1 = shares-fit (2 ^ 31 - 1) (2 * half) r (suc (suc (2 * j))) (omega arith) (omega (arith, small 0 (omega arith))) in
+      omega (arith, suc-mul (suc (2 * j)) q, suc-mul (2 * j) q, each (half - 1 - j) (omega arith), each (half + j) (omega arith))
 
-pub slight : (z : ℤ) → natAbs z ≤ 2 ^ 14 → fits32 z ≡ true
-slight z h = below-fits32 z (omega (arith, mag-size z))
+  pub pair-added : (r s tap a b : ℤ) → s ≡ r +ℤ around f half j → f (half - 1 - j) ≡ tap *ℤ a → f (half + j) ≡ tap *ℤ b
+      → s +ℤ tap *ℤ (a +ℤ b) ≡ r +ℤ around f half (j + 1)
+  pair-added r s tap a b so low high =
+      rw (so, spread tap a b) (
+      rw (low, high) at (+ℤ-assoc r (around f half j) (f (half - 1 - j) +ℤ f (half + j)))
+      ∙ ap (λ (t : ℤ). r +ℤ t) (rw (low, high) at (around-more f half j inside))
+      )

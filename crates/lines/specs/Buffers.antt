@@ -14,9 +14,9 @@ use Rattle.base.specs.Floor.{floorDiv}
 abbrev pub Below : List ℤ → ℕ → ℕ → Type 0
 Below l w m = (x : ℕ) → x < w → natAbs (getD l x (pos 0)) ≤ m
 
--- The w entries from a place on are small: at most 2^16 in size.
-abbrev pub SmallAt : List ℤ → ℕ → ℕ → Type 0
-SmallAt l place w = (x : ℕ) → x < w → natAbs (getD l (place + x) (pos 0)) ≤ 2 ^ 16
+-- The w entries from a place on are at most m in size.
+abbrev pub Within : List ℤ → ℕ → ℕ → ℕ → Type 0
+Within l place w m = (x : ℕ) → x < w → natAbs (getD l (place + x) (pos 0)) ≤ m
 
 -- The first n entries are one, or an even number and the same from both ends.
 abbrev pub Symmetric : List ℤ → ℕ → Type 0

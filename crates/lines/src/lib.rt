@@ -1,4 +1,5 @@
 // Lines of numbers: sums of taps, lifting a line by such sums, and the two halves of a row in line buffers.
 pub mod buffers;
+pub mod measures;
 pub mod small;
 pub mod sums;

@@ -2,17 +2,18 @@
 -- Assumes nothing.
 use mathlib.Core.Path.{_≡_, refl, sym, ap, _∙_, subst}
 use mathlib.Core.List.{List}
-use Prim.Native.Nat.{ℕ, _+_, _*_, _/_, _%_, _≤_, _<_}
+use Prim.Native.Nat.{ℕ, suc, _+_, _-_, _*_, _/_, _%_, _≤_, _<_}
 use native.Mathlib.Nat.{mul-assoc, mul-comm}
 use mathlib.Core.Logic.{_≢_}
 use native.Mathlib.Decide.{decLt, ℕ-discrete}
 use native.Mathlib.Omega.{arith}
-use lib.IntN.{ℤ, pos}
+use lib.IntN.{ℤ, pos, natAbs}
 use lib.ListN.{length, getD}
 use borrow.Author.Tests.{eq-eqb, ne-eqb}
 use Rattle.base.specs.Fill.{fill}
 use Rattle.base.proofs.Fills.{length-fill, getD-fill-in}
 use Rattle.base.proofs.Grids.{row-end, row-filled, other-row-kept, columns-before-kept}
+use Rattle.lines.specs.Buffers.{Within}
 use Rattle.lifting.specs.Layout.{Agree, halfPlace, halvesOf}
 use Rattle.lifting.specs.Planes.{pictureOf}
 use Rattle.transform.specs.Synthesis.{interleave}
@@ -29,8 +30,7 @@ module _ (work₀ coefficients : List ℤ) (pw rows columns stride : ℕ) (apart
   turned-none = record { upper = λ r c h i. absurd (omega arith); lower = λ r c h i. absurd (omega arith); kept = λ r c i. refl }
 
   -- one more turn: two parts of rows filled
-  module _ (work : List ℤ) (k : ℕ) (before : Turned work₀ coefficients work pw rows columns stride k)
-      (room : (2 * k + 1) * stride + 2 * columns ≤ length work) where
+  module _ (work : List ℤ) (k : ℕ) (room : (2 * k + 1) * stride + 2 * columns ≤ length work) where
     abbrev upperRow : ℕ → ℤ
     upperRow x = getD coefficients (k * pw + columns + x) (pos 0)
 
@@ -56,8 +56,46 @@ module _ (work₀ coefficients : List ℤ) (pw rows columns stride : ℕ) (apart
     even-kept b y other inside =
         other-row-kept work stride (2 * k) columns columns (2 * k * stride + columns) refl upperRow (pos 0) b y other (omega arith) inside
 
-    pub turned-more : Turned work₀ coefficients second pw rows columns stride (k + 1)
-    turned-more =
+    -- the two rows are as large as what they were made of
+    pub pair-within : (m : ℕ) → Within work (2 * k * stride) columns m → Within coefficients (k * pw + columns) columns m → Within coefficients ((rows + k) * pw) (2 * columns) m
+        → Within second (2 * k * stride) (2 * columns) m × Within second ((2 * k + 1) * stride) (2 * columns) m
+    pair-within m low upper lower = (
+      λ x h.
+          elim (decLt x columns) [
+            | yes left ↦
+                rw (odd-kept (2 * k) x (omega arith) (omega arith) ∙ columns-before-kept work stride (2 * k) columns columns (2 * k * stride + columns) refl upperRow (pos 0) x left)
+                (low x left)
+            | no right ↦
+                let y : ℕ = x - columns in
+                let split : columns + y ≡ x = omega arith in
+                subst (λ (q : ℕ). natAbs (getD second (2 * k * stride + q) (pos 0)) ≤ m) split
+                (rw (odd-kept (2 * k) (columns + y) (omega arith) (omega arith) ∙ row-filled work stride (2 * k) columns columns (2 * k * stride + columns) refl upperRow (pos 0) y (omega arith) even-room)
+                (upper y (omega arith)))
+          ],
+      λ x h. rw (getD-fill-in first ((2 * k + 1) * stride) lowerRow (2 * columns) x (pos 0) h (rw (length-fill work (2 * k * stride + columns) upperRow columns) (omega arith))) (lower x h),
+    )
+
+    -- so all rows up to them are
+    pub measured-more : (earlier here most : ℕ) → earlier ≤ most → here ≤ most
+        → ((row : ℕ) → row < 2 * k → Within work (row * stride) (2 * columns) (suc earlier))
+        → Within second (2 * k * stride) (2 * columns) (suc here) × Within second ((2 * k + 1) * stride) (2 * columns) (suc here)
+        → (row : ℕ) → row < 2 * (k + 1) → Within second (row * stride) (2 * columns) (suc most)
+    measured-more earlier here most he hh sofar pair row below x h =
+        elim (decLt row (2 * k)) [
+          | yes before ↦
+              rw (odd-kept row x (omega arith) (omega arith) ∙ even-kept row x (omega arith) (omega arith))
+              (omega (arith, sofar row before x h))
+          | no last ↦
+              elim (ℕ-discrete row (2 * k)) [
+                | yes even ↦ rw even (omega (arith, pair .0 x h))
+                | no odd ↦
+                    let one : row ≡ 2 * k + 1 = omega arith in
+                    rw one (omega (arith, pair .1 x h))
+              ]
+        ]
+
+    pub turned-more : Turned work₀ coefficients work pw rows columns stride k → Turned work₀ coefficients second pw rows columns stride (k + 1)
+    turned-more before =
         record {
           upper = λ r c h i.
               odd-kept (2 * r) (columns + c) (omega arith) (omega arith)

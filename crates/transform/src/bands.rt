@@ -1,33 +1,66 @@
 // Document 01, "Synthesis and analysis": moving bands and pictures between planes. Interleave, the low band, and pad removal.
 ghost use mathlib.Core.Path.{_≡_};
-ghost use Prim.Native.Nat.{_+_, _*_, _≤_, _<_};
-ghost use lib.ListN.{length};
+ghost use Prim.Native.Nat.{ℕ, suc, _+_, _*_, _≤_, _<_};
+ghost use lib.IntN.{pos};
+ghost use lib.ListN.{length, getD};
+ghost use Rattle.base.specs.Fill.{fill};
+ghost use Rattle.lines.specs.Buffers.{Within};
 ghost use Rattle.lifting.specs.Planes.{pictureOf, raster};
 ghost use Rattle.lifting.specs.Layout.{Agree, Placed, halvesOf};
 ghost use Rattle.transform.specs.Synthesis.{interleave};
 use base::plane;
 use lifting::columns::Frame;
+use lines::measures::copy_measured;
+use lines::measures::join;
+use lines::measures::measure;
 
 // Puts the bands of a level around the picture of the level below, which stands in every other row of the plane: each row as two halves, its
-// even columns and then its odd ones.
-pub fn interleave_bands(work: &mut [i32], coefficients: &[i32], padded_width: usize, frame: Frame)
+// even columns and then its odd ones. Answers how large the numbers are: none is larger than the answer and 1.
+pub fn interleave_bands(
+    work: &mut [i32],
+    coefficients: &[i32],
+    padded_width: usize,
+    frame: Frame,
+) -> u32
     requires { ⌜ Placed frame (now work) ⌝ }
     requires { ⌜ (2 * frame .«band_columns» ≤ «padded_width») × (2 * frame .«band_rows» * «padded_width» ≤ length (now coefficients)) ⌝ }
-    ensures { λ _. ⌜ Agree (2 * frame .«band_rows») (2 * frame .«band_columns») (halvesOf (frame .«band_columns») (frame .stride) (now (work .exit))) (interleave (frame .«band_rows») (frame .«band_columns») (pictureOf (2 * frame .stride) (now (work .entry))) (pictureOf «padded_width» (now (coefficients .entry)))) ⌝ }
+    ensures interleaved { λ _. ⌜ Agree (2 * frame .«band_rows») (2 * frame .«band_columns») (halvesOf (frame .«band_columns») (frame .stride) (now (work .exit))) (interleave (frame .«band_rows») (frame .«band_columns») (pictureOf (2 * frame .stride) (now (work .entry))) (pictureOf «padded_width» (now (coefficients .entry)))) ⌝ }
+    ensures measured { λ m. ⌜ ((row : ℕ) → row < 2 * frame .«band_rows» → Within (now (work .exit)) (row * frame .stride) (2 * frame .«band_columns») (suc m)) ⌝ }
 {
     let rows = frame.band_rows;
-    let columns = frame.band_columns;
-    let stride = frame.stride;
+    let mut most = 0u32;
     let mut r = 0;
     while r < rows {
-        let even_row = 2 * r * stride + columns;
-        let upper_bands = r * padded_width + columns;
-        plane::copy(work, even_row, coefficients, upper_bands, columns);
-        let odd_row = (2 * r + 1) * stride;
-        let lower_bands = (rows + r) * padded_width;
-        plane::copy(work, odd_row, coefficients, lower_bands, 2 * columns);
+        let here = interleave_pair(work, coefficients, padded_width, frame, r);
+        most = join(most, here);
         r += 1;
     }
+    most
+}
+
+// Row r of each band: HL beside row r of the picture of the level below, LH and HH into the row after it.
+fn interleave_pair(
+    work: &mut [i32],
+    coefficients: &[i32],
+    padded_width: usize,
+    frame: Frame,
+    r: usize,
+) -> u32
+    requires { ⌜ Placed frame (now work) × (r < frame .«band_rows») ⌝ }
+    requires { ⌜ (2 * frame .«band_columns» ≤ «padded_width») × (2 * frame .«band_rows» * «padded_width» ≤ length (now coefficients)) ⌝ }
+    ensures stored { λ _. ⌜ now (work .exit) ≡ fill (fill (now (work .entry)) (2 * r * frame .stride + frame .«band_columns») (frame .«band_columns») (λ x. getD (now (coefficients .entry)) (r * «padded_width» + frame .«band_columns» + x) (pos 0))) ((2 * r + 1) * frame .stride) (2 * frame .«band_columns») (λ x. getD (now (coefficients .entry)) ((frame .«band_rows» + r) * «padded_width» + x) (pos 0)) ⌝ }
+    ensures measured { λ m. ⌜ Within (now (work .exit)) (2 * r * frame .stride) (2 * frame .«band_columns») (suc m) × Within (now (work .exit)) ((2 * r + 1) * frame .stride) (2 * frame .«band_columns») (suc m) ⌝ }
+{
+    let columns = frame.band_columns;
+    let stride = frame.stride;
+    let even_row = 2 * r * stride;
+    let low = measure(work, even_row, columns);
+    let upper_bands = r * padded_width + columns;
+    let upper = copy_measured(work, even_row + columns, coefficients, upper_bands, columns);
+    let odd_row = (2 * r + 1) * stride;
+    let lower_bands = (frame.band_rows + r) * padded_width;
+    let lower = copy_measured(work, odd_row, coefficients, lower_bands, 2 * columns);
+    join(join(low, upper), lower)
 }
 
 // Copies the first rows and columns of one picture to another.

@@ -90,8 +90,8 @@ fn synthesise_level(
     ensures done { λ r. ⌜ (r ≡ true → Agree (sizeAt (extent .«low_rows») (suc below)) (sizeAt (extent .«low_columns») (suc below)) (pictureOf (extent .«padded_width» * 2 ^ (extent .depth - suc below)) (now (work .exit))) (runAll (sizeAt (extent .«low_rows») (suc below)) (sizeAt (extent .«low_columns») (suc below)) (synthesisPasses (filterOf wavelet)) (interleave (sizeAt (extent .«low_rows») below) (sizeAt (extent .«low_columns») below) (pictureOf (extent .«padded_width» * 2 ^ (extent .depth - below)) (now (work .entry))) (pictureOf (extent .«padded_width») (now (coefficients .entry)))))) ⌝ }
 {
     let frame = next_frame(extent, below);
-    interleave_bands(work, coefficients, extent.padded_width, frame);
-    if !filter_columns(work, sums, frame, wavelet) {
+    let most = interleave_bands(work, coefficients, extent.padded_width, frame);
+    if !filter_columns(work, sums, frame, wavelet, most) {
         return false;
     }
     filter_rows(work, low, high, sums, frame, wavelet)

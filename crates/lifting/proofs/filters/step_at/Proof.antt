@@ -5,7 +5,7 @@ use native.Mathlib.Omega.{arith}
 use borrow.Author.Needs.{needs}
 use Rattle.base.specs.Every.{allBelow}
 use Rattle.lifting.specs.Filters.{filterOf, filter0, filter1, filter2, haarSteps, filter3, filter4, filter5, filter6}
-use Rattle.lifting.specs.Table.{typeOf, stepOf}
+use Rattle.lifting.specs.Table.{typeOf, stepOf, largest, gainOf}
 use Rattle.lifting.proofs.TableLaws.{two, four, seven, entry, entry-says}
 use Rattle.lifting.proofs.filters.step_at.Statement.{statement}
 use Rattle.lifting.proofs.filters.step_at.Tie as tie
@@ -36,7 +36,7 @@ mul-result : tie.Need-mul-result
 mul-result c = omega (arith, array-copy-out-result c)
 
 returns : tie.Need-returns
-unfolding filterOf filter0 filter1 filter2 haarSteps filter3 filter4 filter5 filter6 stepOf typeOf allBelow
+unfolding filterOf filter0 filter1 filter2 haarSteps filter3 filter4 filter5 filter6 stepOf typeOf largest gainOf allBelow
 returns c =
     let wavelet = c .before .before .args .wavelet in
     let k = c .before .before .args .k in

@@ -1,4 +1,5 @@
--- `lifting::rows::filter_halves` meets its contract: after k turns the row is what the first k steps make of it, and their new numbers fit.
+-- `lifting::rows::filter_halves` meets its contract: after k turns the row is what the first k steps make of it, and their new numbers fit;
+-- the halves keep to the reach.
 -- Assumes nothing.
 use mathlib.Core.Path.{_≡_, refl, sym, ap, _∙_}
 use mathlib.Core.Bool.{true, false≢true}
@@ -13,6 +14,7 @@ use Rattle.lines.specs.Buffers.{woven}
 use Rattle.lifting.specs.Filters.{filterOf}
 use Rattle.lifting.specs.Layout.{Agree}
 use Rattle.lifting.specs.Passes.{rows, run, runAll, allNewFit}
+use Rattle.lifting.specs.Reach.{HalvesReach}
 use Rattle.lifting.specs.Table.{stepOf}
 use Rattle.lifting.proofs.PassLaws.{passes-more, passes-stop}
 use Rattle.lifting.proofs.PairLaws.{twice-length}
@@ -21,30 +23,31 @@ use Rattle.lifting.proofs.rows.filter_halves.Statement.{statement}
 use Rattle.lifting.proofs.rows.filter_halves.Tie as tie
 
 abbrev Inv-loop : tie.InvT-loop
-Inv-loop low₀ high₀ sums₀ half wavelet count k₀ low high sums k =
+Inv-loop low₀ high₀ sums₀ half wavelet count reach₀ k₀ low high sums reach k =
     let passes = take k (map rows (filterOf wavelet .steps)) in
     (k ≤ count)
     × (allNewFit 1 (2 * half) passes (λ row. woven low₀ high₀) ≡ true)
     × Agree 1 (2 * half) (λ row. woven low high) (runAll 1 (2 * half) passes (λ row. woven low₀ high₀))
+    × HalvesReach half reach low high
 
 abbrev μ-loop : tie.MeasureT-loop
-μ-loop low₀ high₀ sums₀ half wavelet count k₀ low high sums k = count - k
+μ-loop low₀ high₀ sums₀ half wavelet count reach₀ k₀ low high sums reach k = count - k
 
 step-count-requires : tie.Need-step-count-requires Inv-loop μ-loop
 step-count-requires c κs = search needs
 
 loop-holds : tie.Need-loop-holds Inv-loop μ-loop
 unfolding runAll allNewFit
-loop-holds c = (omega arith, refl, λ row x r h. refl)
+loop-holds c = (omega arith, refl, (λ row x r h. refl), c .before .pre .1)
 
 step-at-requires : tie.Need-step-at-requires Inv-loop μ-loop
-step-at-requires c κs = (c .before .before .before .pre .2, rw (← c .before .before .step-count .ensures) (c .loop-test .taken))
+step-at-requires c κs = (c .before .before .before .pre .0 .2, rw (← c .before .before .step-count .ensures) (c .loop-test .taken))
 
 lift-halves-requires : tie.Need-lift-halves-requires Inv-loop μ-loop
 lift-halves-requires c κs =
     let turn = c .before .before .before in
     let start = turn .before .before .before .before in
-    (start .pre .0, start .pre .1, turn .step-at .ensures .1)
+    ((start .pre .0 .0, start .pre .0 .1, turn .step-at .ensures .1), turn .before .before .loop .inv .3)
 
 -- the step is the next pass of the filter
 inside : (c : tie.After-step-at Inv-loop μ-loop) → c .before .before .loop .k < length (map rows (filterOf (c .before .before .before .before .args .wavelet) .steps))
@@ -62,31 +65,38 @@ returns : tie.Need-returns Inv-loop μ-loop
 returns c =
     let step = c .before .before .before .before .before in
     let head = step .before .before in
-    let same = rows-same _ _ (twice-length _ (head .before .before .pre .0)) (stepOf (step .step-at .result)) in (
+    let same = rows-same _ _ (twice-length _ (head .before .before .pre .0 .0)) (stepOf (step .step-at .result)) in (
       sym
           (passes-stop _ _ _ (head .loop .k) _ _ _ (inside step) (next step) same (head .loop .inv .1) (head .loop .inv .2)
           (sym (c .before .lift-halves .ensures .0) ∙ not-true _ (c .if1 .taken))),
       λ wrong. absurd (false≢true wrong),
     )
 
+reach-after-requires : tie.Need-reach-after-requires Inv-loop μ-loop
+reach-after-requires c κs =
+    let step = c .before .before .before .before .before in
+    let reach = step .before .before .loop .inv .3 in
+    (step .step-at .ensures .1, reach .0, reach .1)
+
 add-k : tie.Need-add-k Inv-loop μ-loop
-add-k c = omega (arith, c .before .before .before .before .before .before .loop-test .taken)
+add-k c = omega (arith, c .before .before .before .before .before .before .before .loop-test .taken)
 
 loop-less : tie.Need-loop-less Inv-loop μ-loop
-loop-less c = omega (arith, c .before .before .before .before .before .before .loop-test .taken)
+loop-less c = omega (arith, c .before .before .before .before .before .before .before .loop-test .taken)
 
 loop-again : tie.Need-loop-again Inv-loop μ-loop
 unfolding run
 loop-again c =
-    let step = c .before .before .before .before .before in
+    let step = c .before .before .before .before .before .before in
     let head = step .before .before in
-    let went = not-false _ (c .if1 .left) in
-    let same = rows-same _ _ (twice-length _ (head .before .before .pre .0)) (stepOf (step .step-at .result)) in
+    let called = c .before .before .lift-halves in
+    let went = not-false _ (c .before .if1 .left) in
+    let same = rows-same _ _ (twice-length _ (head .before .before .pre .0 .0)) (stepOf (step .step-at .result)) in
     let more =
     passes-more _ _ _ (head .loop .k) _ _ _ (inside step) (next step) same (head .loop .inv .1) (head .loop .inv .2) _
-    (sym (c .before .lift-halves .ensures .0) ∙ went) (λ row x r h. c .before .lift-halves .ensures .1 went x h)
+    (sym (called .ensures .0) ∙ went) (λ row x r h. called .ensures .1 .0 went x h)
     in
-    (omega (arith, step .before .loop-test .taken), more .0, more .1)
+    (omega (arith, step .before .loop-test .taken), more .0, more .1, rw (c .reach-after .ensures) (called .ensures .1 .1 went))
 
 returns-2 : tie.Need-returns-2 Inv-loop μ-loop
 returns-2 c =
@@ -107,6 +117,7 @@ filter-halves-spec =
     step-at-requires
     lift-halves-requires
     returns
+    reach-after-requires
     add-k
     loop-less
     loop-again

@@ -1,10 +1,11 @@
--- `lifting::rows::filter_row` meets its contract: the buffers hold the row's halves, what the steps make of them is woven back.
+-- `lifting::rows::filter_row` meets its contract: the buffers hold the row's halves, measured, and what the steps make of them is woven back.
 -- Assumes nothing.
 use mathlib.Core.Path.{_≡_, sym, _∙_, subst}
 use mathlib.Core.Bool.{true, false≢true}
 use mathlib.Core.List.{map}
 use Prim.Native.Nat.{ℕ, _+_, _*_, _<_}
 use native.Mathlib.Omega.{arith}
+use borrow.Author.Needs.{needs}
 use borrow.Author.Tests.{not-true, not-false}
 use lib.IntN.{ℤ, pos}
 use lib.ListN.{getD}
@@ -13,38 +14,62 @@ use Rattle.lines.specs.Buffers.{woven}
 use Rattle.lifting.specs.Filters.{filterOf}
 use Rattle.lifting.specs.Passes.{rows, allNewFit}
 use Rattle.lifting.specs.Layout.{halfPlace}
-use Rattle.lifting.proofs.HalfLaws.{halves-copied}
+use Rattle.lifting.proofs.HalfLaws.{halves-copied, half-measured}
 use Rattle.lifting.proofs.PlaneRows.{halfRow, row-told, row-entry, row-woven}
-use borrow.Author.Needs.{needs}
 use Rattle.lifting.proofs.rows.filter_row.Statement.{statement}
 use Rattle.lifting.proofs.rows.filter_row.Tie as tie
 
-copy-requires : tie.Need-copy-requires
-copy-requires c κs = search needs
+copy-measured-requires : tie.Need-copy-measured-requires
+copy-measured-requires c κs = search needs
 
-add-copy : tie.Need-add-copy
-add-copy c = search needs
+cast-low-most : tie.Need-cast-low-most
+cast-low-most c = search needs
 
-copy-requires-2 : tie.Need-copy-requires-2
-copy-requires-2 c κs = search needs
+add-copy-measured : tie.Need-add-copy-measured
+add-copy-measured c = search needs
+
+copy-measured-requires-2 : tie.Need-copy-measured-requires-2
+copy-measured-requires-2 c κs = search needs
+
+cast-high-most : tie.Need-cast-high-most
+cast-high-most c = search needs
+
+add-t21 : tie.Need-add-t21
+add-t21 c = record { fits = omega (arith, c .before .before .before .copy-measured .ok) }
+
+add-t22 : tie.Need-add-t22
+add-t22 c = record { fits = omega (arith, c .copy-measured2 .ok) }
 
 filter-halves-requires : tie.Need-filter-halves-requires
-filter-halves-requires c κs = search needs
+filter-halves-requires c κs =
+    let second = c .before .before .before in
+    let first = second .before .before .before in
+    let start = first .before .before .before in
+    let low = first .copy-measured in
+    let high = second .copy-measured2 in (
+      (start .pre .0, start .pre .1, start .pre .3),
+      (
+        omega (arith, low .ok),
+        omega (arith, high .ok),
+        half-measured (start .args .half) (start .args .place) (low .result) (start .args .work .now) (start .args .low .now) (low .last .0) (omega arith) (low .ensures .0) (low .ensures .1),
+        half-measured (start .args .half) (start .args .place + start .args .half) (high .result) (start .args .work .now) (start .args .high .now) (high .last .0) (omega arith) (high .ensures .0) (high .ensures .1),
+      ),
+    )
 
 same-length : tie.Need-same-length
 same-length c = search needs
 
 -- the buffers hold the row's halves
 copied :
-    (c : tie.After-copy2) (x : ℕ)
+    (c : tie.After-copy-measured2) (x : ℕ)
     → let start = c .before .before .before .before .before .before in
     x < 2 * start .args .half
-    → woven (c .before .before .before .copy .last .0) (c .copy2 .last .0) x ≡ getD (start .args .work .now) (start .args .place + halfPlace (start .args .half) x) (pos 0)
+    → woven (c .before .before .before .copy-measured .last .0) (c .copy-measured2 .last .0) x ≡ getD (start .args .work .now) (start .args .place + halfPlace (start .args .half) x) (pos 0)
 copied c =
     let first = c .before .before .before in
     let start = first .before .before .before in
     halves-copied (start .args .half) (start .args .place) (start .args .work .now) (start .args .low .now) (start .args .high .now) _ _ (omega arith) (omega arith)
-    (first .copy .ensures) (c .copy2 .ensures)
+    (first .copy-measured .ensures .0) (c .copy-measured2 .ensures .0)
 
 -- whether the row's new numbers fit
 told :
@@ -57,7 +82,7 @@ told c =
     let start = second .before .before .before .before .before .before in
     c .filter-halves .ensures .0
     ∙ row-told (filterOf (start .args .wavelet) .steps) (filterOf (start .args .wavelet) .shift) (start .args .half) (start .args .place) (start .pre .0) (start .args .work .now)
-    (second .before .before .before .copy .last .0) (second .copy2 .last .0) (copied second)
+    (second .before .before .before .copy-measured .last .0) (second .copy-measured2 .last .0) (copied second)
 
 returns : tie.Need-returns
 returns c = (sym (not-true _ (c .if1 .taken)) ∙ told (c .before), (λ wrong. absurd (false≢true wrong), λ wrong. absurd (false≢true wrong)))
@@ -83,12 +108,12 @@ returns-2 c =
       (
         λ fits. woven-is .0
             ∙ row-woven (filterOf (start .args .wavelet) .steps) (filterOf (start .args .wavelet) .shift) (start .args .half) (start .args .place) (start .pre .0) (start .args .work .now)
-            (second .before .before .before .copy .last .0) (second .copy2 .last .0) (copied second)
+            (second .before .before .before .copy-measured .last .0) (second .copy-measured2 .last .0) (copied second)
             (asked .result) _ _ (asked .ensures) (filtered .filter-halves .ensures .1 went),
         λ fits x inside.
             subst (λ (v : ℤ). fits32 v ≡ true)
             (row-entry (filterOf (start .args .wavelet) .steps) (filterOf (start .args .wavelet) .shift) (start .args .half) (start .args .place) (start .pre .0) (start .args .work .now)
-            (second .before .before .before .copy .last .0) (second .copy2 .last .0) (copied second)
+            (second .before .before .before .copy-measured .last .0) (second .copy-measured2 .last .0) (copied second)
             (asked .result) _ _ (asked .ensures) (filtered .filter-halves .ensures .1 went) x inside)
             (woven-is .1 x inside),
       ),
@@ -98,9 +123,13 @@ pub filter-row-spec : {M : Type 1} → statement M
 filter-row-spec =
     tie.close
     (tie.spec
-    copy-requires
-    add-copy
-    copy-requires-2
+    copy-measured-requires
+    cast-low-most
+    add-copy-measured
+    copy-measured-requires-2
+    cast-high-most
+    add-t21
+    add-t22
     filter-halves-requires
     same-length
     returns

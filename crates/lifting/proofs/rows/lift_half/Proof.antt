@@ -1,18 +1,25 @@
 -- `lifting::rows::lift_half` meets its contract: the sums are taken over the half that is read with its ends repeated, as the places that
--- are held say, and lift the other half; over small halves they fit 32 bits.
+-- are held say, and lift the other half; where the step stays small they fit 32 bits.
 -- Assumes nothing.
 use mathlib.Core.Path.{_≡_, sym, _∙_}
-use Prim.Native.Nat.{ℕ, _+_, _≤_, _<_, _^_}
+use mathlib.Core.Bool.{Bool, true}
+use mathlib.Core.List.{List}
+use Prim.Native.Nat.{ℕ, _+_, _≤_, _<_}
 use native.Mathlib.Omega.{arith}
 use borrow.Author.Needs.{needs}
-use lib.IntN.{pos, natAbs, _+ℤ_}
+use lib.IntN.{ℤ, pos, _+ℤ_}
 use lib.ListN.{length, getD}
 use mir.Syntax.{w64}
 use mir.Val.{toZ, ofZ}
-use Rattle.lines.specs.Sums.{sumBelow, tapAt}
+use Rattle.base.specs.Every.{allBelow}
+use Rattle.base.specs.Fill.{fill}
+use Rattle.base.specs.Range.{fits32}
+use Rattle.base.proofs.Everys.{all-from}
+use Rattle.lines.specs.Sums.{sumBelow, tapAt, changed}
 use Rattle.lifting.specs.Lifting.{rounding}
+use Rattle.lifting.specs.Reach.{staysSmall}
 use Rattle.lifting.proofs.TableLaws.{rounding-small, rounding-slight, rounding-back}
-use Rattle.lifting.proofs.HalfLaws.{half-told, half-done, half-kept}
+use Rattle.lifting.proofs.HalfLaws.{HalfRead, HalfLifted, half-product, half-fits, half-lifted}
 use Rattle.lifting.proofs.rows.lift_half.Statement.{statement}
 use Rattle.lifting.proofs.rows.lift_half.Tie as tie
 
@@ -20,70 +27,99 @@ extend-requires : tie.Need-extend-requires
 extend-requires c κs = search needs
 
 line-places-requires : tie.Need-line-places-requires
-line-places-requires c κs = omega (arith, c .before .before .pre .2 .near)
+line-places-requires c κs = omega (arith, c .before .before .pre .0 .2 .near)
 
 rounding-of-requires : tie.Need-rounding-of-requires
 rounding-of-requires c κs = search needs
+
+stays-small-requires : tie.Need-stays-small-requires
+stays-small-requires c κs = search needs
 
 -- what the rounding's bits say
 round : (c : tie.After-rounding-of) → toZ w64 (ofZ w64 (c .rounding-of .result)) ≡ rounding (c .before .before .before .before .before .args .step .scale)
 round c =
     let start = c .before .before .before .before .before in
-    rounding-back (start .args .step .scale) (c .rounding-of .result) (start .pre .2 .small-scale) (c .rounding-of .ensures)
+    rounding-back (start .args .step .scale) (c .rounding-of .result) (start .pre .0 .2 .small-scale) (c .rounding-of .ensures)
 
-are-small-requires : tie.Need-are-small-requires
-are-small-requires c κs = search needs
+-- what is known before the sums are made
+ready :
+    (c : tie.After-rounding-of)
+    → let args = c .before .before .before .before .before .args in
+    HalfRead (args .step) (args .half) (args .source-most) (args .target-most) (args .target .now) (args .source .now) (c .before .before .before .extend .last .0) (c .before .before .line-places .result)
+ready c =
+    let start = c .before .before .before .before .before in
+    record {
+      sane = start .pre .0 .2;
+      some = start .pre .0 .0;
+      ends = c .before .before .before .extend .ensures;
+      placed = c .before .before .line-places .ensures;
+      targets = start .pre .1 .2;
+      sources = start .pre .1 .3;
+    }
+
+-- the sums, however they are made, and what one of them makes of an entry
+abbrev Summed : tie.After-rounding-of → List ℤ → Type 0
+Summed c sums =
+    let args = c .before .before .before .before .before .args in
+    (x : ℕ) → x < args .half
+    → getD sums x (pos 0)
+    ≡ toZ w64 (ofZ w64 (c .rounding-of .result)) +ℤ sumBelow (tapAt (args .step .taps) (c .before .before .line-places .result) (c .before .before .before .extend .last .0) x) (args .step .count)
+
+abbrev new : tie.After-rounding-of → List ℤ → ℕ → ℤ
+new c sums k =
+    let args = c .before .before .before .before .before .args in
+    changed (args .step .adds) (args .step .scale) (getD (args .target .now) (4 + k) (pos 0)) (getD sums k (pos 0))
+
+-- the half lifted by them
+lifted :
+    (c : tie.After-rounding-of) (sums : List ℤ) → Summed c sums → (answer : Bool) (target' : List ℤ)
+    → let args = c .before .before .before .before .before .args in
+    4 + args .half ≤ length (args .target .now)
+    → answer ≡ allBelow (args .half) (λ k. fits32 (new c sums k))
+    → (answer ≡ true → target' ≡ fill (args .target .now) 4 (args .half) (new c sums))
+    → HalfLifted (args .step) (args .half) (args .source-most) (args .target-most) (args .target .now) (args .source .now) answer target' (c .before .before .before .extend .last .0)
+lifted c sums summed = half-lifted (ready c) sums (λ x h. summed x h ∙ rw (round c))
+
+-- where the step stays small, each new entry fits
+small : (c : tie.Then1) → let args = c .before .before .before .before .before .before .before .args in staysSmall (args .step) (args .source-most) (args .target-most) ≡ true
+small c = sym (c .before .stays-small .ensures) ∙ c .if1 .taken
+
+fits : (c : tie.Then1) (sums : List ℤ) → Summed (c .before .before) sums → (k : ℕ) → k < c .before .before .before .before .before .before .before .args .half → fits32 (new (c .before .before) sums k) ≡ true
+fits c sums summed = half-fits (ready (c .before .before)) sums (λ x h. summed x h ∙ rw (round (c .before .before))) (small c)
 
 sum-small-requires : tie.Need-sum-small-requires
 sum-small-requires c κs =
-    let rounded = c .before .before .before .before .before .before .before .before .before in
+    let rounded = c .before .before .before .before .before .before .before in
     let start = rounded .before .before .before .before .before in
-    let sane = start .pre .2 in
-    let places = rounded .before .before .line-places .ensures in
-    let small = c .before .before .before .before .before .before .are-small .ensures (c .before .before .before .before .before .if1 .taken) .1 in (
-      (omega arith, sane .some-taps, sane .few-taps, rw (round rounded) (rounding-slight _ (sane .small-scale)), sane .symmetric),
-      λ t h. (
-        sane .small-gain t h,
-        rw (places t (omega arith)) (omega arith),
-        λ x inside.
-            let at = start .args .step .lead + t + x in
-            let plain : 0 + at ≡ at = omega arith in
-            rw (places t (omega arith)) (rw plain at (small at (omega (arith, sane .near)))),
+    let sane = start .pre .0 .2 in (
+      (omega arith, sane .some-taps, sane .few-taps, rw (round rounded) (omega (arith, rounding-slight (start .args .step .scale) (sane .small-scale))), sane .symmetric),
+      (
+        λ t h. (
+          sane .real-taps t h,
+          omega (arith, sane .small-taps t (omega (arith, sane .few-taps))),
+          rw (rounded .before .before .line-places .ensures t (omega arith)) (omega arith),
+        ),
+        λ t x h inside. rw (round rounded) (half-product (ready rounded) (small (c .before .before .before .before .before)) t x h inside),
       ),
     )
 
 lift-small-requires : tie.Need-lift-small-requires
 lift-small-requires c κs =
-    ((omega arith, omega arith, omega (arith, c .before .before .before .before .before .before .before .before .before .before .before .before .before .before .before .before .before .pre .2 .small-scale), c .before .before .before .before .before .before .before .before .before .are-small .ensures (c .before .before .before .before .before .before .before .before .if1 .taken) .0), c .before .before .sum-small .ensures .1)
+    let went = c .before .before .before .before .before .before .before .before in
+    let sums = c .before .before .sum-small in
+    ((omega arith, omega arith, omega (arith, went .before .before .before .before .before .before .before .pre .0 .2 .small-scale)), fits went (sums .last .0) (sums .ensures))
 
 returns : tie.Need-returns
 returns c =
-    let extending = c .before .before .before .before .before .before .before .before .before .before .before .before .before .before .before .before in
-    let start = extending .before .before in
-    let step = start .args .step in
-    let half = start .args .half in
-    let target = start .args .target .now in
-    let source = start .args .source .now in
-    let extended = extending .extend .last .0 in
-    let rounded = c .before .before .before .before .before .before .before .before .before .before .before .before .before in
+    let went = c .before .before .before .before .before .before .before .before .before in
     let sums = c .before .before .before .sum-small in
-    let room : 4 + half ≤ length target = omega arith in
-    let ends = extending .extend .ensures in
-    let places = c .before .before .before .before .before .before .before .before .before .before .before .before .before .before .before .line-places .ensures in
-    let summed : (x : ℕ) → x < half → getD (sums .last .0) x (pos 0) ≡ rounding (step .scale) +ℤ sumBelow (tapAt (step .taps) (c .before .before .before .before .before .before .before .before .before .before .before .before .before .before .before .line-places .result) extended x) (step .count) =
-    λ x h. sums .ensures .0 x h ∙ rw (round rounded) in (
-      sym (c .lift-small .ensures .0) ∙ half-told step half target source extended (sums .last .0) _ (start .pre .2) ends places summed,
-      (
-        λ yes. half-done step half target source extended (sums .last .0) _ (start .pre .2) ends places summed _ room (c .lift-small .ensures .1),
-        half-kept half source extended ends,
-      ),
-    )
+    lifted (went .before .before) (sums .last .0) (sums .ensures) true _ (omega arith) (sym (all-from _ _ (fits went (sums .last .0) (sums .ensures)))) (λ yes. c .lift-small .ensures)
 
 sum-taps-requires : tie.Need-sum-taps-requires
 sum-taps-requires c κs =
-    let rounded = c .before .before .before .before .before .before .before .before .before in
+    let rounded = c .before .before .before .before .before .before .before in
     let start = rounded .before .before .before .before .before in
-    let sane = start .pre .2 in (
+    let sane = start .pre .0 .2 in (
       (omega arith, sane .few-taps, rw (round rounded) (rounding-small _ (sane .small-scale))),
       λ t h. (sane .small-taps t (omega arith), rw (rounded .before .before .line-places .ensures t (omega arith)) (omega arith)),
     )
@@ -93,26 +129,11 @@ lift-line-requires c κs = search needs
 
 returns-2 : tie.Need-returns-2
 returns-2 c =
-    let extending = c .before .before .before .before .before .before .before .before .before .before .before .before .before .before .before .before in
-    let start = extending .before .before in
-    let step = start .args .step in
-    let half = start .args .half in
-    let target = start .args .target .now in
-    let source = start .args .source .now in
-    let extended = extending .extend .last .0 in
-    let rounded = c .before .before .before .before .before .before .before .before .before .before .before .before .before in
+    let rounded = c .before .before .before .before .before .before .before .before .before .before .before in
+    let start = rounded .before .before .before .before .before in
     let sums = c .before .before .before .sum-taps in
-    let room : 4 + half ≤ length target = omega arith in
-    let ends = extending .extend .ensures in
-    let places = c .before .before .before .before .before .before .before .before .before .before .before .before .before .before .before .line-places .ensures in
-    let summed : (x : ℕ) → x < half → getD (sums .last .0) x (pos 0) ≡ rounding (step .scale) +ℤ sumBelow (tapAt (step .taps) (c .before .before .before .before .before .before .before .before .before .before .before .before .before .before .before .line-places .result) extended x) (step .count) =
-    λ x h. sums .ensures .0 x h ∙ rw (round rounded) in (
-      c .lift-line .ensures .0 ∙ half-told step half target source extended (sums .last .0) _ (start .pre .2) ends places summed,
-      (
-        λ yes. half-done step half target source extended (sums .last .0) _ (start .pre .2) ends places summed _ room (c .lift-line .ensures .1 yes),
-        half-kept half source extended ends,
-      ),
-    )
+    let room : 4 + start .args .half ≤ length (start .args .target .now) = omega arith in
+    lifted rounded (sums .last .0) (sums .ensures .0) (c .lift-line .result) _ room (c .lift-line .ensures .0) (c .lift-line .ensures .1)
 
 pub lift-half-spec : {M : Type 1} → statement M
 lift-half-spec =
@@ -121,7 +142,7 @@ lift-half-spec =
     extend-requires
     line-places-requires
     rounding-of-requires
-    are-small-requires
+    stays-small-requires
     sum-small-requires
     lift-small-requires
     returns

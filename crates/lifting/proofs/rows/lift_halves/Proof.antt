@@ -2,31 +2,49 @@
 -- Assumes nothing.
 use mathlib.Core.Path.{sym, _∙_}
 use mathlib.Core.Bool.{true, false}
-use borrow.Author.Needs.{needs}
-use Rattle.lifting.proofs.HalfLaws.{halves-new, halves-lifted}
+use Rattle.lifting.specs.Reach.{reachOf}
+use Rattle.lifting.proofs.HalfLaws.{halves-new, halves-lifted, reach-halves}
 use Rattle.lifting.proofs.rows.lift_halves.Statement.{statement}
 use Rattle.lifting.proofs.rows.lift_halves.Tie as tie
 
 lift-half-requires : tie.Need-lift-half-requires
-lift-half-requires c κs = search needs
+lift-half-requires c κs =
+    let start = c .before .before .before .before in
+    let reach = start .pre .1 in
+    (start .pre .0, (reach .0, reach .1, reach .2, reach .3))
 
 lift-half-requires-2 : tie.Need-lift-half-requires-2
-lift-half-requires-2 c κs = search needs
+lift-half-requires-2 c κs =
+    let start = c .before .before .before .before in
+    let reach = start .pre .1 in
+    (start .pre .0, (reach .1, reach .0, reach .3, reach .2))
 
 returns : tie.Need-returns
+unfolding reachOf
 returns c =
     let even = c .before .before .before .before .if1 .taken in
-    let args = c .before .before .before .before .before .args in (
-      c .lift-half .ensures .0 ∙ sym (halves-new (args .step) (args .half) (args .low .now) (args .high .now) true even),
-      λ fits. halves-lifted (args .step) (args .half) (args .low .now) (args .high .now) true even _ _ (c .lift-half .ensures .1 .0 fits) (c .lift-half .ensures .1 .1),
+    let start = c .before .before .before .before .before in
+    let args = start .args in
+    let lifted = c .lift-half .ensures in (
+      lifted .0 ∙ sym (halves-new (args .step) (args .half) (args .low .now) (args .high .now) true even),
+      (
+        λ fits. halves-lifted (args .step) (args .half) (args .low .now) (args .high .now) true even _ _ (lifted .1 .0 fits) (lifted .1 .1 .0),
+        λ fits. reach-halves (args .step) (args .half) true even (args .reach) (args .high .now) (c .lift-half .last .0) (c .lift-half .last .1 .0) (start .pre .1 .1) (start .pre .1 .3) (lifted .1 .1 .0) (lifted .1 .1 .1 fits),
+      ),
     )
 
 returns-2 : tie.Need-returns-2
+unfolding reachOf
 returns-2 c =
     let odd = c .before .before .before .before .if1 .left in
-    let args = c .before .before .before .before .before .args in (
-      c .lift-half2 .ensures .0 ∙ sym (halves-new (args .step) (args .half) (args .high .now) (args .low .now) false odd),
-      λ fits. halves-lifted (args .step) (args .half) (args .high .now) (args .low .now) false odd _ _ (c .lift-half2 .ensures .1 .0 fits) (c .lift-half2 .ensures .1 .1),
+    let start = c .before .before .before .before .before in
+    let args = start .args in
+    let lifted = c .lift-half2 .ensures in (
+      lifted .0 ∙ sym (halves-new (args .step) (args .half) (args .high .now) (args .low .now) false odd),
+      (
+        λ fits. halves-lifted (args .step) (args .half) (args .high .now) (args .low .now) false odd _ _ (lifted .1 .0 fits) (lifted .1 .1 .0),
+        λ fits. reach-halves (args .step) (args .half) false odd (args .reach) (args .low .now) (c .lift-half2 .last .0) (c .lift-half2 .last .1 .0) (start .pre .1 .0) (start .pre .1 .2) (lifted .1 .1 .0) (lifted .1 .1 .1 fits),
+      ),
     )
 
 pub lift-halves-spec : {M : Type 1} → statement M

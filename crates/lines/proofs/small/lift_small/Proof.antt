@@ -10,12 +10,9 @@ use lib.ListN.{length, getD, length-set}
 use mir.Syntax.{w32}
 use mir.Val.{toZ, ofZ}
 use Rattle.base.specs.Fill.{fill}
-use Rattle.base.specs.Range.{fits32}
-use Rattle.base.proofs.Everys.{all-from}
 use Rattle.base.proofs.Fills.{fill-none, fill-more, getD-fill-out}
 use Rattle.base.proofs.Ranges.{back}
 use Rattle.lines.specs.Sums.{changed}
-use Rattle.lines.proofs.SumLaws.{changed-fits}
 use Rattle.lines.proofs.small.lift_small.Statement.{statement}
 use Rattle.lines.proofs.small.lift_small.Tie as tie
 
@@ -69,7 +66,7 @@ lifted-requires : tie.Need-lifted-requires Inv-loop μ-loop
 lifted-requires c κs =
     let head = c .before .before .before in
     let start = head .before in
-    (start .pre .0 .2, rw (old c) (start .pre .0 .3 (head .loop .x) (omega arith)), rw (summed c) (start .pre .1 (head .loop .x) (omega arith)))
+    (start .pre .0 .2, rw (old c, summed c) (start .pre .1 (head .loop .x) (omega arith)))
 
 made : (c : tie.After-lifted Inv-loop μ-loop) → toZ w32 (ofZ w32 (c .lifted .result)) ≡ wanted (c .before .before .before .before) (c .before .before .before .before .loop .x)
 made c = back w32 (c .lifted .result) (c .lifted .ok) ∙ c .lifted .ensures ∙ rw (old (c .before), summed (c .before)) refl
@@ -104,11 +101,8 @@ returns : tie.Need-returns Inv-loop μ-loop
 returns c =
     let head = c .before in
     let start = head .before in
-    let all : head .loop .x ≡ start .args .width = omega arith in (
-      all-from (λ x. fits32 (wanted head x)) (start .args .width)
-          (λ x h. changed-fits (getD (start .args .line .now) (start .args .place + x) (pos 0)) (getD (start .args .sums .now) x (pos 0)) (start .pre .0 .3 x h) (start .pre .1 x h) (start .args .adds) (start .args .scale)),
-      head .loop .inv .2 ∙ rw all refl,
-    )
+    let all : head .loop .x ≡ start .args .width = omega arith in
+    head .loop .inv .2 ∙ rw all refl
 
 pub lift-small-spec : {M : Type 1} → statement M
 lift-small-spec =

@@ -1,14 +1,16 @@
--- `lines::small::lifted` meets its contract: a small number and a sum of small products have their sum and their difference in 32 bits.
+-- `lines::small::lifted` meets its contract: the new number fits 32 bits.
 -- Assumes nothing.
 use mathlib.Core.Path.{_≡_, refl, _∙_}
+use mathlib.Core.Bool.{true}
 use Prim.Native.Nat.{_^_}
 use borrow.Author.Needs.{needs}
+use lib.IntN.{_+ℤ_, _-ℤ_}
 use mir.Syntax.{w32}
 use mir.Val.{toZ, ofZ}
 use Rattle.base.specs.Floor.{floorDiv}
-use Rattle.base.proofs.Ranges.{back}
+use Rattle.base.specs.Range.{fits32}
+use Rattle.base.proofs.Ranges.{back, fits32-below}
 use Rattle.lines.specs.Sums.{changed}
-use Rattle.lines.proofs.SumLaws.{added-fits, subtracted-fits}
 use Rattle.lines.proofs.small.lifted.Statement.{statement}
 use Rattle.lines.proofs.small.lifted.Tie as tie
 
@@ -25,14 +27,22 @@ update c =
     back w32 _ (c .shift-down .ok) ∙ c .shift-down .ensures ∙ rw (back w32 (start .args .sum) (start .fits .sum .sfits)) refl
 
 add-requires : tie.Need-add-requires
+unfolding changed
 add-requires c κs =
     let start = c .before .before in
-    rw (number (c .before), update (c .before)) (added-fits (start .args .v) (start .args .sum) (start .pre .1) (start .pre .2) (2 ^ start .args .scale))
+    let v = start .args .v in
+    let q = floorDiv (start .args .sum) (2 ^ start .args .scale) in
+    let inside : fits32 (v +ℤ q) ≡ true = rw (c .if1 .taken) at (start .pre .1) in
+    rw (number (c .before), update (c .before)) (fits32-below (v +ℤ q) inside)
 
 sub-requires : tie.Need-sub-requires
+unfolding changed
 sub-requires c κs =
     let start = c .before .before in
-    rw (number (c .before), update (c .before)) (subtracted-fits (start .args .v) (start .args .sum) (start .pre .1) (start .pre .2) (2 ^ start .args .scale))
+    let v = start .args .v in
+    let q = floorDiv (start .args .sum) (2 ^ start .args .scale) in
+    let inside : fits32 (v -ℤ q) ≡ true = rw (c .if1 .left) at (start .pre .1) in
+    rw (number (c .before), update (c .before)) (fits32-below (v -ℤ q) inside)
 
 returns : tie.Need-returns
 unfolding changed

@@ -1,121 +1,64 @@
--- `transform::bands::interleave_bands` meets its contract: each turn stores HL into an even row and LH and HH into an odd one, and no row meets another.
+-- `transform::bands::interleave_bands` meets its contract: each turn interleaves a row of each band and measures it, and no row meets another.
 -- Assumes nothing.
 use mathlib.Core.Path.{_≡_, refl, _∙_}
-use Prim.Native.Nat.{ℕ, _+_, _-_, _*_, _≤_, _<_}
+use Prim.Native.Nat.{ℕ, suc, _+_, _-_, _*_, _≤_, _<_}
 use native.Mathlib.Omega.{arith}
+use borrow.Author.Needs.{needs}
 use lib.ListN.{length}
 use Rattle.base.proofs.Grids.{row-end}
-use Rattle.transform.proofs.BandLaws.{Turned, turned-none, turned-more, turned-all}
+use Rattle.lines.specs.Buffers.{Within}
+use Rattle.lifting.proofs.Frames.{placed-same}
+use Rattle.transform.proofs.BandLaws.{Turned, turned-none, turned-more, turned-all, measured-more}
 use Rattle.transform.proofs.bands.interleave_bands.Statement.{statement}
 use Rattle.transform.proofs.bands.interleave_bands.Tie as tie
 
 abbrev Inv-loop : tie.InvT-loop
-Inv-loop work₀ coefficients padded-width rows columns stride r₀ work r =
-    (r ≤ rows) × (length work ≡ length work₀) × Turned work₀ coefficients work padded-width rows columns stride r
+Inv-loop work₀ coefficients padded-width frame rows most₀ r₀ work most r =
+    (r ≤ rows)
+    × (length work ≡ length work₀)
+    × Turned work₀ coefficients work padded-width (frame .«band_rows») (frame .«band_columns») (frame .stride) r
+    × ((row : ℕ) → row < 2 * r → Within work (row * frame .stride) (2 * frame .«band_columns») (suc most))
 
 abbrev μ-loop : tie.MeasureT-loop
-μ-loop work₀ coefficients padded-width rows columns stride r₀ work r = rows - r
+μ-loop work₀ coefficients padded-width frame rows most₀ r₀ work most r = rows - r
 
 loop-holds : tie.Need-loop-holds Inv-loop μ-loop
-loop-holds c = (omega arith, refl, turned-none _ _ _ _ _ _ (c .pre .0 .apart))
+loop-holds c = (omega arith, refl, turned-none _ _ _ _ _ _ (c .pre .0 .apart), λ row below. absurd (omega arith))
 
--- the rows that a turn stores to, and those that it reads, lie within their planes
-module _ (c : tie.In-loop Inv-loop μ-loop) where
-  abbrev r : ℕ
-  r = c .before .loop .r
+interleave-pair-requires : tie.Need-interleave-pair-requires Inv-loop μ-loop
+interleave-pair-requires c κs =
+    let turn = c .before in
+    let head = turn .before in
+    let start = head .before in
+    ((placed-same (start .args .frame) (start .args .work .now) (head .loop .work) (start .pre .0) (head .loop .inv .1), turn .loop-test .taken), start .pre .1)
 
-  abbrev pw : ℕ
-  pw = c .before .before .args .padded-width
-
-  abbrev bands : ℕ
-  bands = c .before .before .args .frame .«band_rows»
-
-  abbrev columns : ℕ
-  columns = c .before .before .args .frame .«band_columns»
-
-  abbrev stride : ℕ
-  stride = c .before .before .args .frame .stride
-
-  odd-end : (2 * r + 1) * stride + 2 * columns ≤ length (c .before .before .args .work .now)
-  odd-end =
-      let placed = c .before .before .pre .0 in
-      omega (arith, row-end (2 * r + 1) (2 * bands) stride (2 * columns) (omega (arith, c .loop-test .taken)) (placed .apart), placed .inside)
-
-  even-end : 2 * r * stride + 2 * columns ≤ length (c .before .before .args .work .now)
-  even-end =
-      let placed = c .before .before .pre .0 in
-      omega (arith, row-end (2 * r) (2 * bands) stride (2 * columns) (omega (arith, c .loop-test .taken)) (placed .apart), placed .inside)
-
-  upper-end : r * pw + 2 * columns ≤ length (c .before .before .args .coefficients .now)
-  upper-end =
-      let sizes = c .before .before .pre .1 in
-      omega (arith, row-end r (2 * bands) pw (2 * columns) (omega (arith, c .loop-test .taken)) (sizes .0), sizes .1)
-
-  lower-end : (bands + r) * pw + 2 * columns ≤ length (c .before .before .args .coefficients .now)
-  lower-end =
-      let sizes = c .before .before .pre .1 in
-      omega (arith, row-end (bands + r) (2 * bands) pw (2 * columns) (omega (arith, c .loop-test .taken)) (sizes .0), sizes .1)
-
-  few-rows : 2 * r + 1 < 4096
-  few-rows = omega (arith, c .loop-test .taken, c .before .before .pre .0 .rows-most)
-
-mul-even-row : tie.Need-mul-even-row Inv-loop μ-loop
-mul-even-row c = omega (arith, few-rows c)
-
-mul-even-row-2 : tie.Need-mul-even-row-2 Inv-loop μ-loop
-mul-even-row-2 c = omega (arith, even-end c)
-
-add-even-row : tie.Need-add-even-row Inv-loop μ-loop
-add-even-row c = omega (arith, even-end c)
-
-mul-upper-bands : tie.Need-mul-upper-bands Inv-loop μ-loop
-mul-upper-bands c = omega (arith, upper-end c)
-
-add-upper-bands : tie.Need-add-upper-bands Inv-loop μ-loop
-add-upper-bands c = omega (arith, upper-end c)
-
-copy-requires : tie.Need-copy-requires Inv-loop μ-loop
-copy-requires c κs = (omega (arith, even-end (c .before), c .before .before .loop .inv .1), omega (arith, upper-end (c .before)))
-
-mul-odd-row : tie.Need-mul-odd-row Inv-loop μ-loop
-mul-odd-row c = omega (arith, few-rows (c .before .before .before))
-
-add-odd-row : tie.Need-add-odd-row Inv-loop μ-loop
-add-odd-row c = omega (arith, few-rows (c .before .before .before))
-
-mul-odd-row-2 : tie.Need-mul-odd-row-2 Inv-loop μ-loop
-mul-odd-row-2 c = omega (arith, odd-end (c .before .before .before))
-
-add-lower-bands : tie.Need-add-lower-bands Inv-loop μ-loop
-add-lower-bands c =
-    let turn = c .before .before .before in
-    omega (arith, turn .loop-test .taken, turn .before .before .pre .0 .rows-most)
-
-mul-lower-bands : tie.Need-mul-lower-bands Inv-loop μ-loop
-mul-lower-bands c = omega (arith, lower-end (c .before .before .before))
-
-mul-copy : tie.Need-mul-copy Inv-loop μ-loop
-mul-copy c = omega (arith, c .before .before .before .before .before .before .pre .0 .columns-most)
-
-copy-requires-2 : tie.Need-copy-requires-2 Inv-loop μ-loop
-copy-requires-2 c κs =
-    let turn = c .before .before .before .before in
-    (omega (arith, odd-end turn, turn .before .loop .inv .1, c .before .before .copy .kept .0), omega (arith, lower-end turn))
+join-requires : tie.Need-join-requires Inv-loop μ-loop
+join-requires c κs = search needs
 
 add-r : tie.Need-add-r Inv-loop μ-loop
-add-r c = omega (arith, few-rows (c .before .before .before .before .before .before))
+add-r c = omega (arith, c .before .before .before .before .loop-test .taken, c .before .before .before .before .before .before .pre .0 .rows-most)
 
 loop-less : tie.Need-loop-less Inv-loop μ-loop
 loop-less c = omega arith
 
 loop-again : tie.Need-loop-again Inv-loop μ-loop
 loop-again c =
-    let turn = c .before .before .before .before .before .before in
-    let head = turn .before in (
+    let pair = c .before .before in
+    let turn = pair .before .before in
+    let head = turn .before in
+    let start = head .before in
+    let f = start .args .frame in
+    let r = head .loop .r in
+    let room : (2 * r + 1) * f .stride + 2 * f .«band_columns» ≤ length (head .loop .work) =
+    omega (arith, row-end (2 * r + 1) (2 * f .«band_rows») (f .stride) (2 * f .«band_columns») (omega (arith, turn .loop-test .taken)) (start .pre .0 .apart), start .pre .0 .inside, head .loop .inv .1) in (
       omega (arith, turn .loop-test .taken),
-      c .before .copy2 .kept .0 ∙ c .before .before .before .before .copy .kept .0 ∙ head .loop .inv .1,
-      rw (c .before .copy2 .ensures, c .before .before .before .before .copy .ensures)
-          (turned-more _ _ _ _ _ _ (head .before .pre .0 .apart) (head .loop .work) (head .loop .r) (head .loop .inv .2) (omega (arith, odd-end turn, head .loop .inv .1))),
+      pair .interleave-pair .kept .0 ∙ head .loop .inv .1,
+      rw (pair .interleave-pair .ensures .0)
+          (turned-more _ _ _ _ _ _ (start .pre .0 .apart) (head .loop .work) r room (head .loop .inv .2)),
+      rw (pair .interleave-pair .ensures .0)
+          (measured-more (start .args .work .now) (start .args .coefficients .now) (start .args .padded-width) (f .«band_rows») (f .«band_columns») (f .stride) (start .pre .0 .apart) (head .loop .work) r room
+          (head .loop .most) (pair .interleave-pair .result) _ (c .join .ensures .0) (c .join .ensures .1) (head .loop .inv .3)
+          (rw (pair .interleave-pair .ensures .0) at (pair .interleave-pair .ensures .1))),
     )
 
 same-length : tie.Need-same-length Inv-loop μ-loop
@@ -123,8 +66,12 @@ same-length c = c .before .loop .inv .1
 
 returns : tie.Need-returns Inv-loop μ-loop
 returns c =
-    let all : c .before .loop .r ≡ c .before .before .args .frame .«band_rows» = omega arith in
-    turned-all _ _ _ _ _ _ (c .before .before .pre .0 .apart) (c .before .loop .work) (rw all at (c .before .loop .inv .2))
+    let head = c .before in
+    let start = head .before in
+    let all : head .loop .r ≡ start .args .frame .«band_rows» = omega arith in (
+      turned-all _ _ _ _ _ _ (start .pre .0 .apart) (head .loop .work) (rw all at (head .loop .inv .2)),
+      rw all at (head .loop .inv .3),
+    )
 
 pub interleave-bands-spec : {M : Type 1} → statement M
 interleave-bands-spec =
@@ -133,19 +80,8 @@ interleave-bands-spec =
     Inv-loop
     μ-loop
     loop-holds
-    mul-even-row
-    mul-even-row-2
-    add-even-row
-    mul-upper-bands
-    add-upper-bands
-    copy-requires
-    mul-odd-row
-    add-odd-row
-    mul-odd-row-2
-    add-lower-bands
-    mul-lower-bands
-    mul-copy
-    copy-requires-2
+    interleave-pair-requires
+    join-requires
     add-r
     loop-less
     loop-again

@@ -49,7 +49,9 @@ interleave-bands-requires c κs =
     )
 
 filter-columns-requires : tie.Need-filter-columns-requires
-filter-columns-requires c κs = (placed-in (c .before .before .before .before .before) _ (c .before .before .before .interleave-bands .kept .0), c .before .before .before .before .before .before .pre .2)
+filter-columns-requires c κs =
+    let bands = c .before .before .before .interleave-bands in
+    ((placed-in (c .before .before .before .before .before) _ (bands .kept .0), c .before .before .before .before .before .before .pre .2), bands .ensures .1)
 
 same-length : tie.Need-same-length
 same-length c = c .before .before .filter-columns .kept .0 ∙ c .before .before .before .before .before .before .interleave-bands .kept .0
@@ -87,7 +89,7 @@ returns c =
       by-sizes framed
           (λ bh bw s s2. false ≡ allNewFit (2 * bh) (2 * bw) (synthesisPasses (filterOf (framed .before .args .wavelet))) (interleave bh bw (pictureOf s2 (start-work framed)) (coefficient-picture framed)))
           (level-fails (filterOf (framed .before .args .wavelet)) (frame .«band_rows») (frame .«band_columns») (sizes .rows-least) (sizes .columns-least) (woven framed)
-          (pictureOf (frame .stride) (c .before .before .before .before .before .before .interleave-bands .last .0)) (c .before .before .before .before .before .before .interleave-bands .ensures)
+          (pictureOf (frame .stride) (c .before .before .before .before .before .before .interleave-bands .last .0)) (c .before .before .before .before .before .before .interleave-bands .ensures .0)
           (sym (c .before .before .filter-columns .ensures .0) ∙ not-true _ (c .if1 .taken))),
       λ e. let z : _≡_ {A = ℕ} 0 1 = cc in absurd (omega arith),
     )
@@ -114,14 +116,14 @@ returns-2 c =
           (λ bh bw s s2. rows-ok .result ≡ allNewFit (2 * bh) (2 * bw) (synthesisPasses filter) (interleave bh bw (pictureOf s2 (start-work framed)) (coefficient-picture framed)))
           (rows-ok .ensures .0
           ∙ level-told filter (frame .«band_rows») (frame .«band_columns») (sizes .rows-least) (sizes .columns-least) (woven framed)
-          (pictureOf (frame .stride) (c .before .before .before .before .before .before .before .before .before .before .before .before .interleave-bands .last .0)) (c .before .before .before .before .before .before .before .before .before .before .before .before .interleave-bands .ensures) passed
+          (pictureOf (frame .stride) (c .before .before .before .before .before .before .before .before .before .before .before .before .interleave-bands .last .0)) (c .before .before .before .before .before .before .before .before .before .before .before .before .interleave-bands .ensures .0) passed
           (pictureOf (frame .stride) (columns-ok .last .0)) after
           (λ e. rows-ok .ensures .1 .1 (rows-ok .ensures .0 ∙ e))),
       λ e.
           by-sizes framed
           (λ bh bw s s2. Agree (2 * bh) (2 * bw) (pictureOf s (rows-ok .last .0)) (runAll (2 * bh) (2 * bw) (synthesisPasses filter) (interleave bh bw (pictureOf s2 (start-work framed)) (coefficient-picture framed))))
           (level-done filter (frame .«band_rows») (frame .«band_columns») (sizes .rows-least) (sizes .columns-least) (woven framed)
-          (pictureOf (frame .stride) (c .before .before .before .before .before .before .before .before .before .before .before .before .interleave-bands .last .0)) (c .before .before .before .before .before .before .before .before .before .before .before .before .interleave-bands .ensures) passed
+          (pictureOf (frame .stride) (c .before .before .before .before .before .before .before .before .before .before .before .before .interleave-bands .last .0)) (c .before .before .before .before .before .before .before .before .before .before .before .before .interleave-bands .ensures .0) passed
           (pictureOf (frame .stride) (columns-ok .last .0)) after
           (pictureOf (frame .stride) (rows-ok .last .0)) (rows-ok .ensures .1 .0 e)),
     )

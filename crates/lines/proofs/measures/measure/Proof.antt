@@ -1,18 +1,17 @@
--- `lines::small::is_small` meets its contract: after x turns no number of the first x is larger than the one that is kept.
+-- `lines::measures::measure` meets its contract: after x turns no number of the first x is larger than the one that is kept.
 -- Assumes nothing.
 use mathlib.Core.Path.{_≡_, ap, _∙_}
 use Prim.Native.Nat.{ℕ, _+_, _-_, _≤_, _<_}
 use native.Mathlib.Omega.{arith}
 use borrow.Author.Count.{below-more}
-use borrow.Author.Tests.{ltb-true}
 use lib.IntN.{pos}
 use lib.ListN.{getD}
 use lib.Signed.{mag}
 use mir.Syntax.{w32}
 use Rattle.base.proofs.Magnitudes.{size-mag}
 use Rattle.base.proofs.Ranges.{back}
-use Rattle.lines.proofs.small.is_small.Statement.{statement}
-use Rattle.lines.proofs.small.is_small.Tie as tie
+use Rattle.lines.proofs.measures.measure.Statement.{statement}
+use Rattle.lines.proofs.measures.measure.Tie as tie
 
 abbrev Inv-loop : tie.InvT-loop
 Inv-loop line place width most₀ x₀ most x = (x ≤ width) × ((k : ℕ) → k < x → mag (getD line (place + k) (pos 0)) ≤ most)
@@ -53,14 +52,14 @@ loop-again c =
 
 returns : tie.Need-returns Inv-loop μ-loop
 returns c =
-    λ yes x h.
+    λ x h.
     let start = c .before .before in
     let all : c .before .loop .x ≡ start .args .width = omega arith in
     let entry = getD (start .args .line .now) (start .args .place + x) (pos 0) in
-    omega (arith, c .before .loop .inv .1 x (omega arith), ltb-true (c .before .loop .most) 65536 yes, size-mag entry)
+    omega (arith, c .before .loop .inv .1 x (omega arith), size-mag entry)
 
-pub is-small-spec : {M : Type 1} → statement M
-is-small-spec =
+pub measure-spec : {M : Type 1} → statement M
+measure-spec =
     tie.close
     (tie.spec
     Inv-loop

@@ -1,9 +1,9 @@
--- `lines::small::join` meets its contract: a bit that is set in one number is set in the answer.
+-- `lines::measures::join` meets its contract: a bit that is set in one number is set in the answer.
 -- Assumes nothing.
 use native.Mathlib.Omega.{arith}
 use lib.Bits.{or-add-and, and-le-l, and-le-r}
-use Rattle.lines.proofs.small.join.Statement.{statement}
-use Rattle.lines.proofs.small.join.Tie as tie
+use Rattle.lines.proofs.measures.join.Statement.{statement}
+use Rattle.lines.proofs.measures.join.Tie as tie
 
 returns : tie.Need-returns
 returns c =

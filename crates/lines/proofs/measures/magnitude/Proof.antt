@@ -1,4 +1,4 @@
--- `lines::small::magnitude` meets its contract: a number below 0 is mirrored at −1/2.
+-- `lines::measures::magnitude` meets its contract: a number below 0 is mirrored at −1/2.
 -- Assumes nothing.
 use mathlib.Core.Path.{_≡_, ap}
 use mathlib.Core.Bool.{true, false}
@@ -10,8 +10,8 @@ use lib.Signed.{mag, ltZ, nonNeg}
 use mir.Syntax.{w32}
 use mir.Val.{Fits}
 use Rattle.base.proofs.Ranges.{back, mirror-below}
-use Rattle.lines.proofs.small.magnitude.Statement.{statement}
-use Rattle.lines.proofs.small.magnitude.Tie as tie
+use Rattle.lines.proofs.measures.magnitude.Statement.{statement}
+use Rattle.lines.proofs.measures.magnitude.Tie as tie
 
 -- a number that is not below 0 is a natural number
 plain : (z : ℤ) → ltZ z (pos 0) ≡ false → mag z < 2 ^ 31 → T (nonNeg z) × Fits w32 (natAbs z)
