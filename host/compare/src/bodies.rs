@@ -1,11 +1,8 @@
-//! Bodies and coefficient planes at random.
+//! Bodies at random.
 
 use reference::codes::{BitReader, BitWriter, PastEnd};
 use reference::encode::{encode_subbands, EncodeOptions, SubbandOptions};
-use reference::params::Orientation::{HH, HL, LH};
-use reference::params::{
-    padded_area, padded_width, subband, subbands, Parameters, Subband, MAX_QUANTISER,
-};
+use reference::params::{padded_area, padded_width, subbands, Parameters, Subband, MAX_QUANTISER};
 use reference::pieces::{self, LARGEST_NUMBER};
 use reference::random::Random;
 use reference::recording_vectors::random_picture;
@@ -40,21 +37,26 @@ fn random_options(random: &mut Random) -> SubbandOptions {
 }
 
 /// Up to so many bytes.
-fn random_bytes(random: &mut Random, most: i64) -> Vec<u8> {
+pub fn random_bytes(random: &mut Random, most: i64) -> Vec<u8> {
     (0..random.range(0, most))
         .map(|_| random.bits() as u8)
         .collect()
 }
 
 /// The place in the coefficient plane of some position of a subband.
-fn random_place(random: &mut Random, p: &Parameters, band: &Subband) -> usize {
+pub fn random_place(random: &mut Random, p: &Parameters, band: &Subband) -> usize {
     let x = random.range(0, band.width as i64 - 1) as usize;
     let y = random.range(0, band.height as i64 - 1) as usize;
     (band.top + y) * padded_width(p) + band.left + x
 }
 
 /// Gives each position of a subband a new number.
-fn fill_subband<T>(plane: &mut [T], p: &Parameters, band: &Subband, mut number: impl FnMut() -> T) {
+pub fn fill_subband<T>(
+    plane: &mut [T],
+    p: &Parameters,
+    band: &Subband,
+    mut number: impl FnMut() -> T,
+) {
     for y in band.top..band.top + band.height {
         for x in band.left..band.left + band.width {
             plane[y * padded_width(p) + x] = number();
@@ -241,96 +243,4 @@ fn put_fault(random: &mut Random, p: &Parameters, body: &mut Body, k: usize) {
     };
     let place = random_place(random, p, &subbands(p)[k]);
     body.quantised[place] = random.pick(&[-1, 1]) * number;
-}
-
-/// A number of so many bits, sign included.
-pub fn number_of_bits(random: &mut Random, bits: i64) -> i32 {
-    (random.bits() as i32) >> (32 - bits)
-}
-
-/// A coefficient plane of numbers of so many bits.
-fn plane_of_bits(random: &mut Random, p: &Parameters, bits: i64) -> Vec<i32> {
-    (0..padded_area(p))
-        .map(|_| number_of_bits(random, bits))
-        .collect()
-}
-
-/// An extreme of 32 bits or nearly one.
-fn extreme(random: &mut Random) -> i32 {
-    let near = random.range(0, 2) as i32;
-    if random.flag() {
-        i32::MAX - near
-    } else {
-        i32::MIN + near
-    }
-}
-
-/// Coefficients that are small but for extremes at one level, at one place or more or everywhere; the
-/// depth must not be 0.
-pub fn extreme_at_a_level(random: &mut Random, p: &Parameters) -> Vec<i32> {
-    let bits = random.range(1, 12);
-    let mut plane = plane_of_bits(random, p, bits);
-    let level = random.range(1, i64::from(p.depth)) as u32;
-    let bands = [HL, LH, HH].map(|orientation| subband(p, level, orientation));
-    match random.range(0, 3) {
-        0 => {
-            for _ in 0..random.range(1, 4) {
-                let band = random.pick(&bands);
-                plane[random_place(random, p, &band)] = extreme(random);
-            }
-        }
-        1 => {
-            // The same place of all three, alike or not.
-            let first = random_place(random, p, &bands[0]);
-            let value = extreme(random);
-            let alike = random.flag();
-            for band in bands {
-                let place = first + band.left + band.top * padded_width(p) - bands[0].left;
-                plane[place] = if alike { value } else { extreme(random) };
-            }
-        }
-        _ => {
-            let bits = random.range(30, 32);
-            for band in bands {
-                fill_subband(&mut plane, p, &band, || number_of_bits(random, bits));
-            }
-        }
-    }
-    plane
-}
-
-/// Numbers of about 2^16 in size, the most that the library lifts in 32 bits; one of them may be
-/// larger.
-fn plane_at_the_small_bound(random: &mut Random, p: &Parameters) -> Vec<i32> {
-    let mut plane: Vec<i32> = (0..padded_area(p))
-        .map(|_| random.pick(&[65_535, 65_534, -65_536, -65_535, 0]))
-        .collect();
-    if random.range(0, 1) == 0 {
-        let at = random.range(0, plane.len() as i64 - 1) as usize;
-        plane[at] = random.pick(&[65_536, 65_537, -65_537, -65_538]);
-    }
-    plane
-}
-
-/// Coefficients for synthesise: of few bits or many, about 2^16 in size, extremes alone, or extremes
-/// at one level.
-pub fn random_coefficients(random: &mut Random, p: &Parameters) -> Vec<i32> {
-    match random.range(0, 10) {
-        10 => plane_at_the_small_bound(random, p),
-        0..=3 => {
-            let bits = random.range(1, 24);
-            plane_of_bits(random, p, bits)
-        }
-        4 | 5 => {
-            let bits = random.range(25, 32);
-            plane_of_bits(random, p, bits)
-        }
-        6 => {
-            let value = extreme(random);
-            vec![value; padded_area(p)]
-        }
-        7 => (0..padded_area(p)).map(|_| extreme(random)).collect(),
-        _ if p.depth == 0 => plane_of_bits(random, p, 32),
-        _ => extreme_at_a_level(random, p),
-    }
 }

@@ -1,17 +1,19 @@
 //! One component at random, with everything that the three jobs are lent.
 
 use crate::bodies::{
-    change_length, extreme_at_a_level, faulty_bytes, flip_bits, lossless_body, noise, picture_body,
-    random_body, random_coefficients, random_data,
+    change_length, faulty_bytes, flip_bits, lossless_body, noise, picture_body, random_body,
+    random_data,
 };
-use crate::parameters::{put_out_of_range, random_parameters};
+use crate::borders::{codes_body, ends_bytes, large_index_body, runs_body};
+use crate::parameters::{put_out_of_range, random_parameters, row_parameters};
+use crate::planes::{extreme_at_a_level, plane_of_kind, random_coefficients, PlaneKind};
 use reference::params::{padded_area, sample_area};
 use reference::random::Random;
 use reference::Parameters;
 use std::fmt::Write;
 
 /// What a case is made for.
-#[derive(Clone, Copy, Debug, PartialEq, Eq)]
+#[derive(Clone, Copy, Debug, PartialEq, Eq, PartialOrd, Ord)]
 pub enum Kind {
     /// A body in order, perhaps with bytes behind it.
     Valid,
@@ -27,6 +29,16 @@ pub enum Kind {
     Fault,
     /// Coefficients of which one level has extremes.
     Extreme,
+    /// Coefficients about as large as a filter lifts in 32 bits, or as synthesis accepts.
+    Sized,
+    /// Short codes, and runs of zeros that cross the ends of rows.
+    Runs,
+    /// Codes of every length, at every bit of a byte.
+    Codes,
+    /// Data that ends right behind its last code, or inside it.
+    Ends,
+    /// Small numbers with quantiser indices so large that they just fit 32 bits, or just do not.
+    LargeIndex,
     /// Headers in order, data at random.
     Data,
     /// Bytes at random.
@@ -38,16 +50,21 @@ pub enum Kind {
 }
 
 /// How many of a hundred cases are of a kind.
-const SHARES: [(Kind, u32); 11] = [
-    (Kind::Valid, 18),
-    (Kind::Picture, 6),
-    (Kind::Cut, 8),
-    (Kind::Flipped, 10),
-    (Kind::Length, 6),
-    (Kind::Fault, 22),
-    (Kind::Extreme, 8),
-    (Kind::Data, 5),
-    (Kind::Noise, 5),
+const SHARES: [(Kind, u32); 16] = [
+    (Kind::Valid, 12),
+    (Kind::Picture, 4),
+    (Kind::Cut, 7),
+    (Kind::Flipped, 8),
+    (Kind::Length, 5),
+    (Kind::Fault, 18),
+    (Kind::Extreme, 6),
+    (Kind::Sized, 5),
+    (Kind::Runs, 5),
+    (Kind::Codes, 4),
+    (Kind::Ends, 4),
+    (Kind::LargeIndex, 3),
+    (Kind::Data, 4),
+    (Kind::Noise, 3),
     (Kind::Parameters, 7),
     (Kind::Planes, 5),
 ];
@@ -62,6 +79,7 @@ pub struct Case {
     pub bytes: Vec<u8>,
     /// What synthesise reads; unpack and decode are lent a plane of the same length.
     pub coefficients: Vec<i32>,
+    pub plane_kind: PlaneKind,
     pub work_length: usize,
     pub samples_length: usize,
 }
@@ -73,11 +91,14 @@ impl Case {
         let kind = random_kind(&mut random);
         let least_depth = match kind {
             // So that refusal 10 is as frequent at the high levels.
-            Kind::Extreme => random.range(1, 4) as u32,
+            Kind::Extreme | Kind::Sized => random.range(1, 4) as u32,
             _ => 0,
         };
-        let p = random_parameters(&mut random, least_depth);
-        let coefficients = random_coefficients(&mut random, &p);
+        let p = match kind {
+            Kind::Runs | Kind::Codes | Kind::Ends | Kind::LargeIndex => row_parameters(&mut random),
+            _ => random_parameters(&mut random, least_depth),
+        };
+        let (plane_kind, coefficients) = random_coefficients(&mut random, &p);
         let bytes = random_bytes(&mut random, kind, &p);
         let mut case = Case {
             seed,
@@ -87,6 +108,7 @@ impl Case {
             parameters: p,
             bytes,
             coefficients,
+            plane_kind,
         };
         match kind {
             Kind::Parameters => put_out_of_range(&mut random, &mut case.parameters),
@@ -183,6 +205,15 @@ fn random_bytes(random: &mut Random, kind: Kind, p: &Parameters) -> Vec<u8> {
             let coefficients = extreme_at_a_level(random, p);
             lossless_body(p, &coefficients)
         }
+        Kind::Sized => {
+            let plane_kind = random.pick(&[PlaneKind::Sized, PlaneKind::Brink]);
+            let coefficients = plane_of_kind(random, plane_kind, p);
+            lossless_body(p, &coefficients)
+        }
+        Kind::Runs => runs_body(random, p).bytes(p),
+        Kind::Codes => codes_body(random, p).bytes(p),
+        Kind::Ends => ends_bytes(random, p),
+        Kind::LargeIndex => large_index_body(random, p).bytes(p),
         Kind::Data => random_data(random, p),
         Kind::Noise => noise(random),
     }

@@ -7,10 +7,12 @@
 //! a range of seeds, on threads.
 
 mod bodies;
+mod borders;
 mod case;
 mod check;
 mod guarded;
 mod parameters;
+mod planes;
 pub mod round_trip;
 mod statistics;
 pub mod work;
@@ -20,4 +22,5 @@ pub use check::{
     check, proved, reference, results, Answers, Decoder, Difference, Job, Lent, Outcome,
 };
 pub use parameters::proved_parameters;
+pub use planes::{safe_size, PlaneKind};
 pub use statistics::Statistics;

@@ -41,6 +41,23 @@ pub fn random_parameters(random: &mut Random, least_depth: u32) -> Parameters {
     p
 }
 
+/// Parameters whose widest subbands have rows of up to 80 values in few rows, whole or in codeblocks.
+pub fn row_parameters(random: &mut Random) -> Parameters {
+    let depth = random.pick(&[0, 0, 1, 1, 2]);
+    let halved = u32::from(depth > 0);
+    let width = (random.range(1, 80) as u32) << halved;
+    let height = (random.range(1, 4) as u32) << halved;
+    let wavelet = random.range(0, 6) as u32;
+    // Prediction takes large values out of 32 bits.
+    let intra = random.range(0, 3) == 0;
+    let mut p = pieces::parameters(width, height, depth, wavelet, intra);
+    for level in 0..=depth as usize {
+        p.codeblocks_across[level] = random.pick(&[1, 1, 1, 2, 3, 5]);
+        p.codeblocks_down[level] = random.pick(&[1, 1, 1, 2]);
+    }
+    p
+}
+
 /// A width or height from 1 to 70.
 fn random_size(random: &mut Random) -> u32 {
     let most = match random.range(0, 99) {

@@ -3,8 +3,8 @@
 //! Wherever every number that analysis assigns fits 32 bits, synthesis must be accepted and give the
 //! plane back (document 01, "Synthesis and analysis").
 
-use crate::bodies::number_of_bits;
 use crate::parameters::{proved_parameters, random_parameters};
+use crate::planes::number_of_bits;
 use crate::work::Tally;
 use reference::params::{padded_area, padded_height, padded_width, sample_area};
 use reference::random::Random;
