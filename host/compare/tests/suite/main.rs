@@ -1,6 +1,7 @@
 //! The comparison's tests, in one program.
 
 mod agreement;
+mod borders;
 mod command;
 mod fences;
 mod generator;

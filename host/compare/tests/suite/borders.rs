@@ -1,0 +1,230 @@
+//! The cases meet the borders of a fast reader and of a transform in 32 bits, again and again.
+
+use compare::{check, reference, safe_size, Case, Kind, PlaneKind};
+use reference::codes::{BitReader, PastEnd};
+use reference::params::{subbands, Parameters, Subband};
+use reference::unpack::codeblock_start;
+use std::collections::{BTreeMap, BTreeSet};
+
+/// A number's code in the data of a subband.
+struct Code {
+    number: i64,
+    /// Its first bit, its bits, and how many bits the data has.
+    at: usize,
+    bits: usize,
+    end: usize,
+    /// How many values its row of the codeblock has left, this one included.
+    room: usize,
+}
+
+/// How many bits a signed number's code has.
+fn code_bits(number: i64) -> usize {
+    let data_bits = (number.unsigned_abs() + 1).ilog2() as usize;
+    2 * data_bits + 1 + usize::from(number != 0)
+}
+
+/// The codes of a subband's data, up to the first that begins past the data's end.
+fn codes_of_data(p: &Parameters, band: &Subband, data: &[u8]) -> Vec<Code> {
+    let across = p.codeblocks_across[band.level as usize] as usize;
+    let down = p.codeblocks_down[band.level as usize] as usize;
+    let span =
+        |size, k, count| codeblock_start(size, k, count)..codeblock_start(size, k + 1, count);
+    let mut reader = BitReader::new(data, PastEnd::One);
+    let end = 8 * data.len();
+    let mut at = 0;
+    let mut codes = Vec::new();
+    for block in 0..across * down {
+        if across * down > 1 {
+            at += 1;
+            if reader.bit() == Ok(1) {
+                continue;
+            }
+        }
+        for _ in span(band.height, block / across, down) {
+            let columns = span(band.width, block % across, across);
+            for x in columns.clone() {
+                let number = reader.signed_number().expect("codes in order");
+                if at >= end {
+                    return codes;
+                }
+                let (bits, room) = (code_bits(number), columns.end - x);
+                codes.push(Code {
+                    number,
+                    at,
+                    bits,
+                    end,
+                    room,
+                });
+                at += bits;
+            }
+        }
+    }
+    codes
+}
+
+/// The codes of each subband of a body in order, with the quantiser index.
+fn codes(p: &Parameters, bytes: &[u8]) -> Vec<(u64, Vec<Code>)> {
+    let mut start = 0;
+    let mut list = Vec::new();
+    for band in subbands(p) {
+        let mut header = BitReader::new(&bytes[start..], PastEnd::Missing);
+        let length = header.number().unwrap() as usize;
+        if length == 0 {
+            start += header.align();
+            continue;
+        }
+        let index = header.number().unwrap();
+        start += header.align();
+        let data = &bytes[start..start + length];
+        list.push((index, codes_of_data(p, &band, data)));
+        start += length;
+    }
+    list
+}
+
+/// The first cases of a kind.
+fn cases(kind: Kind, count: usize) -> impl Iterator<Item = Case> {
+    let is_of_kind = move |case: &Case| case.kind == kind;
+    (1..).map(Case::from_seed).filter(is_of_kind).take(count)
+}
+
+/// What unpack answers.
+fn unpack_status(case: &Case) -> u32 {
+    check(case, reference).unwrap()[0].status
+}
+
+#[test]
+fn runs_of_zeros_cross_the_ends_of_rows() {
+    let mut crossed = BTreeSet::new();
+    let mut before_codes = BTreeSet::new();
+    for case in cases(Kind::Runs, 600) {
+        for (_, codes) in codes(&case.parameters, &case.bytes) {
+            let mut run = 0;
+            let mut room = 0;
+            for code in codes {
+                if code.number == 0 {
+                    if run == 0 {
+                        room = code.room;
+                    }
+                    run += 1;
+                    if run == room + 1 {
+                        crossed.insert(room);
+                    }
+                } else {
+                    before_codes.insert((run, code.bits));
+                    run = 0;
+                }
+            }
+        }
+    }
+    // So many values before the end of the row.
+    assert!((1..=40).all(|room| crossed.contains(&room)), "{crossed:?}");
+    for bits in [4, 6, 8, 10] {
+        assert!((0..=33).all(|run| before_codes.contains(&(run, bits))));
+    }
+}
+
+#[test]
+fn codes_of_every_length_stand_at_every_bit_of_a_byte() {
+    let mut inside = BTreeMap::new();
+    for case in cases(Kind::Codes, 600) {
+        for (_, codes) in codes(&case.parameters, &case.bytes) {
+            for code in codes.iter().filter(|code| code.at + code.bits <= code.end) {
+                *inside.entry((code.bits, code.at % 8)).or_insert(0) += 1;
+            }
+        }
+    }
+    for bits in (4..=64).step_by(2) {
+        for at in 0..8 {
+            assert!(inside.get(&(bits, at)) > Some(&5), "{bits} bits at {at}");
+        }
+    }
+}
+
+#[test]
+fn data_ends_behind_and_inside_its_last_code() {
+    let mut bytes_behind = BTreeSet::new();
+    let mut bits_inside = BTreeSet::new();
+    for case in cases(Kind::Ends, 600) {
+        assert!(matches!(unpack_status(&case), 0 | 9));
+        for (_, codes) in codes(&case.parameters, &case.bytes) {
+            let Some(last) = codes.last() else {
+                continue;
+            };
+            let next = last.at + last.bits;
+            if next <= last.end {
+                bytes_behind.insert((last.end - next) / 8);
+            } else {
+                bits_inside.insert(last.end - last.at);
+            }
+        }
+    }
+    assert_eq!(Vec::from_iter(bytes_behind), Vec::from_iter(0..=10));
+    assert!(
+        (1..=40).all(|bits| bits_inside.contains(&bits)),
+        "{bits_inside:?}"
+    );
+}
+
+#[test]
+fn small_numbers_just_fit_with_large_indices() {
+    let mut fits = BTreeSet::new();
+    let mut refused = 0;
+    let mut accepted = 0;
+    for case in cases(Kind::LargeIndex, 600) {
+        match unpack_status(&case) {
+            0 => accepted += 1,
+            9 => refused += 1,
+            status => panic!("status {status}"),
+        }
+        for (index, codes) in codes(&case.parameters, &case.bytes) {
+            let largest = codes.iter().map(|code| code.number.abs()).max();
+            fits.insert((index, largest.unwrap_or(0)));
+        }
+    }
+    assert!(accepted > 150 && refused > 150, "{accepted}, {refused}");
+    for index in 104..=115 {
+        let numbers = fits.range((index, 0)..=(index, i64::MAX));
+        let largest = numbers.map(|(_, number)| *number).max().unwrap();
+        let value = |number| reference::unpack::dequantise(number, index as u32);
+        assert!(value(largest) >= 1 << 31, "{index}: {largest}");
+        assert!(value(largest - 1) < 1 << 31, "{index}: {largest}");
+        assert!(fits.contains(&(index, largest - 1)));
+    }
+}
+
+#[test]
+fn planes_have_every_size_at_which_a_path_may_end() {
+    let mut kinds = BTreeSet::new();
+    let mut near = BTreeSet::new();
+    let mut brink = BTreeMap::new();
+    for case in (1..=24_000).map(Case::from_seed) {
+        let p = &case.parameters;
+        kinds.insert(case.plane_kind);
+        if matches!(case.kind, Kind::Parameters | Kind::Planes) {
+            continue;
+        }
+        if case.plane_kind == PlaneKind::Brink {
+            let mut planes = [vec![0; case.work_length], vec![0; case.samples_length]];
+            let [work, samples] = &mut planes;
+            let answer = reference::synthesise(p, &case.coefficients, work, samples);
+            *brink.entry((p.wavelet, answer.status)).or_insert(0) += 1;
+        }
+        if case.plane_kind == PlaneKind::Sized {
+            let size = |&number: &i32| i64::from(number.max(!number));
+            let largest = case.coefficients.iter().map(size).max().unwrap();
+            let powers = (14..=31).map(|power| 1 << power);
+            for (k, bound) in powers.chain([safe_size(p.wavelet)]).enumerate() {
+                if (largest - bound).abs() <= 4 {
+                    near.insert((p.wavelet, k, largest >= bound));
+                }
+            }
+        }
+    }
+    assert_eq!(kinds.len(), 6);
+    // Below each bound and above it, but nothing is above 2^31.
+    assert_eq!(near.len(), 7 * (2 * 19 - 1));
+    // Accepted and refused, with each wavelet.
+    assert_eq!(brink.len(), 14);
+    assert!(brink.values().all(|&count| count > 100), "{brink:?}");
+}
