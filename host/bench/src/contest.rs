@@ -11,7 +11,7 @@ use reference::params::padded_area;
 #[derive(Clone, Copy, Debug)]
 pub struct Effort {
     pub rounds: usize,
-    /// The reference takes tenths of a second where the others take hundredths.
+    /// The reference takes tenths of a second where the others take hundredths. With 0 it takes no part.
     pub reference_rounds: usize,
 }
 
@@ -27,7 +27,7 @@ pub struct Jobs {
 #[derive(Clone, Copy, Debug)]
 pub struct Speeds {
     pub proved: Jobs,
-    pub reference: Jobs,
+    pub reference: Option<Jobs>,
     /// libavcodec with SIMD code, and in plain C.
     pub libavcodec: Option<[f64; 2]>,
 }
@@ -46,26 +46,27 @@ impl Jobs {
 impl Speeds {
     /// The best of each.
     pub fn best(self, other: Speeds) -> Speeds {
+        let references = self.reference.zip(other.reference);
         let both = self.libavcodec.zip(other.libavcodec);
         Speeds {
             proved: self.proved.best(other.proved),
-            reference: self.reference.best(other.reference),
+            reference: references.map(|(a, b)| a.best(b)),
             libavcodec: both.map(|(a, b)| [a[0].max(b[0]), a[1].max(b[1])]),
         }
     }
 }
 
 /// The planes of a component.
-#[derive(PartialEq, Eq)]
-struct Planes {
-    coefficients: Vec<i32>,
-    work: Vec<i32>,
-    samples: Vec<i32>,
+#[derive(Clone, PartialEq, Eq)]
+pub struct Planes {
+    pub coefficients: Vec<i32>,
+    pub work: Vec<i32>,
+    pub samples: Vec<i32>,
 }
 
 impl Planes {
     /// Planes of zeros for a component.
-    fn new(material: &Material) -> Planes {
+    pub fn new(material: &Material) -> Planes {
         let area = padded_area(&material.parameters);
         Planes {
             coefficients: vec![0; area],
@@ -76,10 +77,10 @@ impl Planes {
 }
 
 /// A job on a component; answers its status.
-type Job = fn(&Material, &mut Planes) -> u32;
+pub type Job = fn(&Material, &mut Planes) -> u32;
 
 /// Unpack, synthesise and decode of the proved library.
-const PROVED: [Job; 3] = [
+pub const PROVED: [Job; 3] = [
     |m, planes| {
         let p = proved_parameters(&m.parameters);
         status(kafsillun::unpack(&p, &m.body, &mut planes.coefficients))
@@ -106,7 +107,7 @@ const PROVED: [Job; 3] = [
 ];
 
 /// Unpack, synthesise and decode of the reference.
-const REFERENCE: [Job; 3] = [
+pub const REFERENCE: [Job; 3] = [
     |m, planes| reference::unpack(&m.parameters, &m.body, &mut planes.coefficients).status,
     |m, planes| {
         reference::synthesise(
@@ -148,22 +149,37 @@ pub fn libavcodec_agrees(wavelet: u32) -> bool {
     wavelet != 6
 }
 
-/// Holds all jobs of the reference to those of the proved library, and libavcodec's samples to its
-/// samples, or says who differs.
-pub fn check(material: &Material) -> Result<(), String> {
-    let (mut proved, mut reference) = (Planes::new(material), Planes::new(material));
-    for (proved_job, reference_job) in PROVED.iter().zip(REFERENCE) {
-        let accepted = proved_job(material, &mut proved) == 0;
-        if !accepted || reference_job(material, &mut reference) != 0 || proved != reference {
-            return Err("the reference differs, or a job refuses".to_string());
-        }
+/// Whether jobs, one after the other, are accepted and leave these planes.
+fn leave(jobs: &[Job], material: &Material, expected: &Planes) -> bool {
+    let mut planes = Planes::new(material);
+    jobs.iter().all(|job| job(material, &mut planes) == 0) && planes == *expected
+}
+
+/// Holds all jobs of the proved library to the reference's decode, libavcodec's samples to its samples
+/// and, if asked to, the reference's other jobs to its planes; or says who differs.
+pub fn check(material: &Material, other_reference_jobs: bool) -> Result<(), String> {
+    let [unpack, synthesise, decode] = PROVED;
+    let mut planes = Planes::new(material);
+    if decode(material, &mut planes) != 0 || !leave(&[unpack, synthesise], material, &planes) {
+        return Err("the library's jobs differ, or one refuses".to_string());
     }
+    let [unpack, synthesise, decode] = REFERENCE;
+    if !leave(&[decode], material, &planes)
+        || other_reference_jobs && !leave(&[unpack, synthesise], material, &planes)
+    {
+        return Err("the reference differs, or a job refuses".to_string());
+    }
+    check_libavcodec(material, &planes.samples)
+}
+
+/// Holds libavcodec to these samples.
+fn check_libavcodec(material: &Material, samples: &[i32]) -> Result<(), String> {
     let p = &material.parameters;
     if !libavcodec_agrees(p.wavelet) {
         return Ok(());
     }
     let shown = |sample: &i32| sample + BitDepth::Eight.offset();
-    let samples: Vec<i32> = proved.samples.iter().map(shown).collect();
+    let samples: Vec<i32> = samples.iter().map(shown).collect();
     for mut libavcodec in open_libavcodec(material) {
         libavcodec.decode();
         for component in 0..COMPONENTS {
@@ -180,11 +196,13 @@ pub fn check(material: &Material) -> Result<(), String> {
 pub fn measure(material: &Material, effort: Effort) -> Speeds {
     let mut contestants = Vec::new();
     contestants.extend(job_contestants(material, PROVED, effort.rounds));
-    contestants.extend(job_contestants(
-        material,
-        REFERENCE,
-        effort.reference_rounds,
-    ));
+    if effort.reference_rounds > 0 {
+        contestants.extend(job_contestants(
+            material,
+            REFERENCE,
+            effort.reference_rounds,
+        ));
+    }
     for mut libavcodec in open_libavcodec(material) {
         contestants.push(Contestant::new(
             COMPONENTS * material.samples(),
@@ -193,16 +211,19 @@ pub fn measure(material: &Material, effort: Effort) -> Speeds {
         ));
     }
     race(&mut contestants);
-    let speeds: Vec<f64> = contestants.iter().map(Contestant::megasamples).collect();
-    let jobs = |first: usize| Jobs {
-        unpack: speeds[first],
-        synthesise: speeds[first + 1],
-        decode: speeds[first + 2],
+    let mut speeds = contestants.iter().map(Contestant::megasamples);
+    let mut jobs = || Jobs {
+        unpack: speeds.next().expect("a job"),
+        synthesise: speeds.next().expect("a job"),
+        decode: speeds.next().expect("a job"),
     };
+    let proved = jobs();
+    let reference = (effort.reference_rounds > 0).then(jobs);
+    let libavcodec: Vec<f64> = speeds.collect();
     Speeds {
-        proved: jobs(0),
-        reference: jobs(3),
-        libavcodec: speeds[6..].try_into().ok(),
+        proved,
+        reference,
+        libavcodec: libavcodec.try_into().ok(),
     }
 }
 

@@ -1,67 +1,56 @@
 //! The command: measures, and prints the tables.
 
-use bench::contest::{check, measure, Effort, Speeds};
+use bench::contest::Effort;
+use bench::instructions::{valgrind_version, CountReport, Counts, PROGRAM};
 use bench::libavcodec::Libavcodec;
-use bench::material::{Material, PLANS, RATES};
-use bench::report::{Report, Row};
+use bench::material::{Plan, COUNTED_SIZE, RATES, WAVELETS};
+use bench::tables::{checked, components, Tables};
 use std::process::ExitCode;
 use std::time::Instant;
 
 const USAGE: &str = "usage: bench [--quick]
+       bench --instructions
 
 Measures unpack, synthesise and decode of the proved library on components of 1920 x
-1080 samples, beside the independent decoder and, where FFmpeg's libraries were found
-when this was built, libavcodec. All are checked to give the same samples first. They
-run in turn on one thread; the processor time of the best run counts. With --quick
-there are few runs, and the figures are rough.
+1080 samples and of other sizes, beside the independent decoder and, where FFmpeg's
+libraries were found when this was built, libavcodec; then synthesise on large numbers,
+and calls that are refused. All are checked to give the same samples first. They run in
+turn on one thread; the processor time of the best run counts. With --quick there are
+few runs, and the figures are rough.
+
+With --instructions valgrind counts the instructions of each job instead, on components
+of 480 x 270 samples.
 
 docs/BENCHMARK.md says how to read the tables.
 
-Exit status: 0; 1 two decoders differ; 2 a wrong command line.
+Exit status: 0; 1 two decoders differ; 2 a wrong command line, or no valgrind.
 ";
 
-/// How often a full run measures every component.
-const FULL_PASSES: usize = 5;
-
-/// Each pass.
-const FULL: Effort = Effort {
-    rounds: 6,
-    reference_rounds: 1,
-};
-
-/// The one pass of a quick run.
-const QUICK: Effort = Effort {
-    rounds: 3,
-    reference_rounds: 1,
-};
-
-/// Every component, or which decoders differ on one.
-fn components() -> Result<Vec<Material>, String> {
-    let mut components = Vec::new();
-    for plan in PLANS {
-        eprintln!("encoding and checking: {plan:?}");
-        for material in Material::of(plan, &RATES) {
-            let index = material.index;
-            check(&material).map_err(|what| format!("{plan:?}, index {index}: {what}"))?;
-            components.push(material);
-        }
-    }
-    Ok(components)
+/// How often everything is measured, and how.
+#[derive(Clone, Copy)]
+struct Passes {
+    count: usize,
+    /// Each pass; the reference takes part in the tables of wavelets alone.
+    effort: Effort,
 }
 
-/// Measures every component in each pass, so that a busy minute of the machine spoils no row.
-fn run(components: &[Material], passes: usize, effort: Effort) -> Report {
-    let mut best: Vec<Option<Speeds>> = vec![None; components.len()];
-    for pass in 1..=passes {
-        eprintln!("measuring: pass {pass} of {passes}");
-        for (material, best) in components.iter().zip(&mut best) {
-            let speeds = measure(material, effort);
-            *best = Some(best.map_or(speeds, |best| best.best(speeds)));
-        }
-    }
-    let row = |(material, speeds)| Row::new(material, Option::expect(speeds, "a pass"));
-    Report(components.iter().zip(best).map(row).collect())
-}
+/// A full run.
+const FULL: Passes = Passes {
+    count: 5,
+    effort: Effort {
+        rounds: 6,
+        reference_rounds: 1,
+    },
+};
+
+/// A quick run.
+const QUICK: Passes = Passes {
+    count: 1,
+    effort: Effort {
+        rounds: 3,
+        reference_rounds: 1,
+    },
+};
 
 /// The processor's name, if the system tells it.
 fn processor() -> String {
@@ -73,6 +62,45 @@ fn processor() -> String {
     name.unwrap_or("unknown".to_string())
 }
 
+/// Measures everything in each pass, so that a busy minute of the machine spoils no row, and prints the
+/// tables.
+fn run(passes: Passes) -> Result<(), String> {
+    let start = Instant::now();
+    let components = components()?;
+    let mut tables = Tables::new(&components)?;
+    for pass in 1..=passes.count {
+        eprintln!("measuring: pass {pass} of {}", passes.count);
+        tables.pass(passes.effort);
+    }
+    let libavcodec = Libavcodec::version().unwrap_or("not installed".to_string());
+    println!("Processor: {}; libavcodec: {libavcodec}.", processor());
+    println!(
+        "Best of {} turns ({} for the reference), one thread, processor time.",
+        passes.count * passes.effort.rounds,
+        passes.count * passes.effort.reference_rounds
+    );
+    println!("Planes are not cleared between turns: what a decoder clears is in its time.\n");
+    print!("{}", tables.report());
+    println!("\n{:.0} s in all", start.elapsed().as_secs_f64());
+    Ok(())
+}
+
+/// Counts the instructions of each wavelet at each rate, and prints the table.
+fn count_instructions(valgrind: &str) -> Result<(), String> {
+    let this = std::env::current_exe().map_err(|error| error.to_string())?;
+    let program = this.with_file_name(PROGRAM);
+    let mut rows = Vec::new();
+    for wavelet in WAVELETS {
+        for material in checked(Plan::new(COUNTED_SIZE, wavelet), &RATES, false)? {
+            eprintln!("counting: index {}", material.index);
+            rows.push(Counts::of(&material, &program)?);
+        }
+    }
+    println!("Counted by {valgrind}, callgrind.\n");
+    print!("{}", CountReport(rows));
+    Ok(())
+}
+
 /// Runs the command.
 fn main() -> ExitCode {
     let words: Vec<String> = std::env::args_os()
@@ -80,9 +108,16 @@ fn main() -> ExitCode {
         .map(|word| word.to_string_lossy().into_owned())
         .collect();
     let words: Vec<&str> = words.iter().map(String::as_str).collect();
-    let (passes, effort) = match words.as_slice() {
-        [] => (FULL_PASSES, FULL),
-        ["--quick"] => (1, QUICK),
+    let result = match words.as_slice() {
+        [] => run(FULL),
+        ["--quick"] => run(QUICK),
+        ["--instructions"] => match valgrind_version() {
+            Some(version) => count_instructions(&version),
+            None => {
+                eprintln!("bench: valgrind is not installed");
+                return ExitCode::from(2);
+            }
+        },
         ["--help" | "-h"] => {
             print!("{USAGE}");
             return ExitCode::SUCCESS;
@@ -92,24 +127,11 @@ fn main() -> ExitCode {
             return ExitCode::from(2);
         }
     };
-    let start = Instant::now();
-    let components = match components() {
-        Ok(components) => components,
+    match result {
+        Ok(()) => ExitCode::SUCCESS,
         Err(error) => {
             eprintln!("bench: {error}");
-            return ExitCode::from(1);
+            ExitCode::from(1)
         }
-    };
-    let report = run(&components, passes, effort);
-    let libavcodec = Libavcodec::version().unwrap_or("not installed".to_string());
-    println!("Processor: {}; libavcodec: {libavcodec}.", processor());
-    println!(
-        "Best of {} turns ({} for the reference), one thread, processor time.",
-        passes * effort.rounds,
-        passes * effort.reference_rounds
-    );
-    println!("Planes are not cleared between turns: what a decoder clears is in its time.\n");
-    print!("{report}");
-    println!("\n{:.0} s in all", start.elapsed().as_secs_f64());
-    ExitCode::SUCCESS
+    }
 }

@@ -22,40 +22,59 @@ pub struct Plan {
 }
 
 /// A rate to come near to, and the quantiser index to try first.
-#[derive(Clone, Copy, Debug)]
+#[derive(Clone, Copy, Debug, PartialEq)]
 pub struct Rate {
     pub bits_a_sample: f64,
     pub first_index: u32,
 }
 
-/// The pictures that are measured, each at every rate: add a row for another.
-pub const PLANS: [Plan; 4] = [full_size(0), full_size(1), full_size(5), full_size(6)];
+/// The size of most rows.
+pub const FULL_SIZE: (u32, u32) = (1920, 1080);
 
-/// The rates.
-pub const RATES: [Rate; 2] = [
-    Rate {
-        bits_a_sample: 1.1,
-        first_index: 14,
-    },
-    Rate {
-        bits_a_sample: 3.7,
-        first_index: 4,
-    },
-];
+/// The wavelets that are measured.
+pub const WAVELETS: [u32; 4] = [0, 1, 5, 6];
 
-/// A picture of 1920 x 1080 samples with a wavelet.
-const fn full_size(wavelet: u32) -> Plan {
-    Plan {
-        width: 1920,
-        height: 1080,
-        depth: 4,
-        wavelet,
+/// The rates that each is measured at.
+pub const RATES: [Rate; 2] = [rate(1.1, 14), rate(3.7, 4)];
+
+/// The wavelet of the tables of sizes and rates.
+pub const ONE_WAVELET: u32 = 1;
+
+/// The other sizes that are measured at the first rate: add one for another row.
+pub const OTHER_SIZES: [(u32, u32); 5] =
+    [(64, 48), (240, 136), (480, 270), (960, 540), (4096, 2160)];
+
+/// The other rates that are measured at the full size.
+pub const OTHER_RATES: [Rate; 3] = [rate(0.5, 22), rate(2.0, 10), rate(6.0, 0)];
+
+/// The size whose instructions are counted.
+pub const COUNTED_SIZE: (u32, u32) = (480, 270);
+
+/// A rate, and the index to try first.
+const fn rate(bits_a_sample: f64, first_index: u32) -> Rate {
+    Rate {
+        bits_a_sample,
+        first_index,
+    }
+}
+
+impl Plan {
+    /// A picture of a size with a wavelet.
+    pub const fn new((width, height): (u32, u32), wavelet: u32) -> Plan {
+        Plan {
+            width,
+            height,
+            depth: 4,
+            wavelet,
+        }
     }
 }
 
 /// An encoded component.
 pub struct Material {
     pub parameters: Parameters,
+    /// The rate that it comes near to.
+    pub rate: Rate,
     /// The quantiser index of every subband.
     pub index: u32,
     pub body: Vec<u8>,
@@ -71,6 +90,11 @@ impl Material {
             .iter()
             .map(|rate| encode_near(&p, &coefficients, rate))
             .collect()
+    }
+
+    /// Its width and height.
+    pub fn size(&self) -> (u32, u32) {
+        (self.parameters.width, self.parameters.height)
     }
 
     /// The samples of the component.
@@ -96,7 +120,7 @@ impl Material {
 /// Encodes coefficients with the index that comes nearest to a rate: the first index that is not
 /// above the rate, or the one before it.
 fn encode_near(p: &Parameters, coefficients: &[i32], rate: &Rate) -> Material {
-    let encode = |index| encode_with(p, coefficients, index);
+    let encode = |index| encode_with(p, coefficients, *rate, index);
     let miss = |material: &Material| material.bits_a_sample() - rate.bits_a_sample;
     let mut above = encode(rate.first_index);
     while miss(&above) < 0.0 && above.index > 0 {
@@ -113,7 +137,7 @@ fn encode_near(p: &Parameters, coefficients: &[i32], rate: &Rate) -> Material {
 }
 
 /// Encodes coefficients with one index for every subband.
-fn encode_with(p: &Parameters, coefficients: &[i32], index: u32) -> Material {
+fn encode_with(p: &Parameters, coefficients: &[i32], rate: Rate, index: u32) -> Material {
     let indices = vec![index; subbands(p).len()];
     let quantised = quantise_plane(p, coefficients, &indices, Rounding::Floor);
     let options = SubbandOptions {
@@ -122,6 +146,7 @@ fn encode_with(p: &Parameters, coefficients: &[i32], index: u32) -> Material {
     };
     Material {
         parameters: p.clone(),
+        rate,
         index,
         body: encode_body(p, &quantised, &EncodeOptions::uniform(p, options)),
     }

@@ -17,18 +17,34 @@ pub struct Contestant<'a> {
 impl<'a> Contestant<'a> {
     /// A contestant that makes this many samples in a run, and takes part in the first rounds.
     pub fn new(samples: usize, rounds: usize, run: impl FnMut() + 'a) -> Contestant<'a> {
+        let runs = LEAST_SAMPLES.div_ceil(samples);
+        Contestant::repeated(samples, runs, rounds, run)
+    }
+
+    /// The same with so many runs a turn.
+    pub fn repeated(
+        samples: usize,
+        runs: usize,
+        rounds: usize,
+        run: impl FnMut() + 'a,
+    ) -> Contestant<'a> {
         Contestant {
             samples,
-            runs: LEAST_SAMPLES.div_ceil(samples),
+            runs,
             rounds,
             run: Box::new(run),
             best_seconds: f64::INFINITY,
         }
     }
 
+    /// The seconds of a run in the best turn.
+    pub fn seconds(&self) -> f64 {
+        self.best_seconds / self.runs as f64
+    }
+
     /// Megasamples a second in the best turn.
     pub fn megasamples(&self) -> f64 {
-        (self.runs * self.samples) as f64 / self.best_seconds / 1e6
+        self.samples as f64 / self.seconds() / 1e6
     }
 
     /// Takes a turn and keeps its time if it is the best.

@@ -1,47 +1,91 @@
 //! The tables.
 
 use crate::contest::{libavcodec_agrees, Speeds};
+use crate::exact::{ScaledPair, ScaledTimes};
 use crate::material::Material;
-use std::fmt::{self, Display};
+use crate::refusals::Call;
+use std::fmt::{self, Display, Formatter};
+
+/// The columns that name a component.
+pub const HEAD: [&str; 5] = ["size", "depth", "wavelet", "index", "bits a sample"];
+
+/// The cells that name a component.
+pub fn head_cells(material: &Material) -> Vec<String> {
+    let p = &material.parameters;
+    vec![
+        format!("{} x {}", p.width, p.height),
+        p.depth.to_string(),
+        p.wavelet.to_string(),
+        material.index.to_string(),
+        format!("{:.2}", material.bits_a_sample()),
+    ]
+}
 
 /// One component and how fast everyone was on it.
+#[derive(Clone)]
 pub struct Row {
-    size: String,
-    depth: u32,
+    head: Vec<String>,
     wavelet: u32,
-    index: u32,
-    bits_a_sample: f64,
     speeds: Speeds,
 }
 
 impl Row {
     /// The row of a component.
     pub fn new(material: &Material, speeds: Speeds) -> Row {
-        let p = &material.parameters;
         Row {
-            size: format!("{} x {}", p.width, p.height),
-            depth: p.depth,
-            wavelet: p.wavelet,
-            index: material.index,
-            bits_a_sample: material.bits_a_sample(),
+            head: head_cells(material),
+            wavelet: material.parameters.wavelet,
             speeds,
         }
     }
+}
 
-    /// The cells that name the row.
-    fn head(&self) -> String {
-        format!(
-            "| {} | {} | {} | {} | {:.2} |",
-            self.size, self.depth, self.wavelet, self.index, self.bits_a_sample
-        )
+/// The rows of all tables.
+pub struct Report {
+    /// Each wavelet at each rate, beside the reference.
+    pub wavelets: Vec<Row>,
+    /// One wavelet at one rate, from small to large.
+    pub sizes: Vec<Row>,
+    /// One wavelet at one size, from few bits to many.
+    pub rates: Vec<Row>,
+    pub exact: Vec<ExactRow>,
+    pub refusals: Vec<RefusalRow>,
+}
+
+/// Synthesise on small numbers and on large ones.
+pub struct ExactRow {
+    wavelet: u32,
+    largest: [u32; 2],
+    times: ScaledTimes,
+}
+
+impl ExactRow {
+    /// The row of a pair.
+    pub fn new(pair: &ScaledPair, times: ScaledTimes) -> ExactRow {
+        ExactRow {
+            wavelet: pair.wavelet(),
+            largest: pair.largest(),
+            times,
+        }
     }
 }
 
-/// The tables of all rows, in megasamples a second.
-pub struct Report(pub Vec<Row>);
+/// A call that is refused, or accepted for comparison.
+pub struct RefusalRow {
+    cells: [String; 3],
+    microseconds: f64,
+}
 
-/// The columns that name a row.
-const HEAD: [&str; 5] = ["size", "depth", "wavelet", "index", "bits a sample"];
+impl RefusalRow {
+    /// The row of a call.
+    pub fn new(call: &Call, microseconds: f64) -> RefusalRow {
+        let status = call.answer.status.to_string();
+        RefusalRow {
+            cells: [call.job.to_string(), status, call.place.clone()],
+            microseconds,
+        }
+    }
+}
 
 /// The columns of the table of all contestants.
 const DECODERS: [&str; 8] = [
@@ -64,36 +108,65 @@ const REFERENCE_JOBS: [&str; 5] = [
     "synthesise / reference",
 ];
 
+/// The columns of the tables of times.
+const TIMES: [&str; 3] = ["unpack", "synthesise", "decode"];
+
+/// The columns of the tables of times beside libavcodec.
+const TIMES_BESIDE: [&str; 3] = ["FFmpeg SIMD", "FFmpeg C", "decode / FFmpeg SIMD"];
+
+/// The columns of the table of large numbers.
+const EXACT: [&str; 6] = [
+    "wavelet",
+    "largest small number",
+    "ns a sample",
+    "largest large number",
+    "ns a sample",
+    "large / small",
+];
+
+/// The columns of the table of refusals.
+const REFUSALS: [&str; 4] = ["job", "status", "where", "microseconds a call"];
+
+/// libavcodec's speeds with SIMD code and in plain C, each as a cell shows it, or that it is missing.
+fn libavcodec_cells(row: &Row, cell: fn(f64) -> String) -> [String; 2] {
+    match row.speeds.libavcodec {
+        Some(speeds) if libavcodec_agrees(row.wavelet) => speeds.map(cell),
+        Some(speeds) => speeds.map(|speed| cell(speed) + " *"),
+        None => [(); 2].map(|_| "not installed".to_string()),
+    }
+}
+
+/// Decode's speed beside libavcodec's with SIMD code and in plain C.
+fn libavcodec_ratios(row: &Row) -> [String; 2] {
+    match row.speeds.libavcodec {
+        Some(speeds) => speeds.map(|speed| figure(row.speeds.proved.decode / speed)),
+        None => [(); 2].map(|_| "-".to_string()),
+    }
+}
+
+/// A ratio to a speed of the reference, if it took part.
+fn reference_ratio(ours: f64, theirs: Option<f64>) -> String {
+    theirs.map_or("-".to_string(), |theirs| figure(ours / theirs))
+}
+
 /// The figures of a row beside libavcodec and the reference.
 fn decoder_cells(row: &Row) -> Vec<String> {
-    let Speeds {
-        proved,
-        reference,
-        libavcodec,
-    } = row.speeds;
-    let speeds = match libavcodec {
-        Some(speeds) if libavcodec_agrees(row.wavelet) => speeds.map(figure),
-        Some(speeds) => speeds.map(|speed| figure(speed) + " *"),
-        None => [(); 2].map(|_| "not installed".to_string()),
-    };
-    let ratios = match libavcodec {
-        Some(speeds) => speeds.map(|speed| figure(proved.decode / speed)),
-        None => [(); 2].map(|_| "-".to_string()),
-    };
-    let mut cells = [proved.unpack, proved.synthesise, proved.decode]
-        .map(figure)
-        .to_vec();
-    cells.extend(speeds);
-    cells.extend(ratios);
-    cells.push(figure(proved.decode / reference.decode));
+    let proved = row.speeds.proved;
+    let reference = row.speeds.reference;
+    let speeds = [proved.unpack, proved.synthesise, proved.decode].map(figure);
+    let mut cells = speeds.to_vec();
+    cells.extend(libavcodec_cells(row, figure));
+    cells.extend(libavcodec_ratios(row));
+    cells.push(reference_ratio(proved.decode, reference.map(|r| r.decode)));
     cells
 }
 
 /// The figures of the reference's jobs.
 fn reference_cells(row: &Row) -> Vec<String> {
-    let Speeds {
-        proved, reference, ..
-    } = row.speeds;
+    let proved = row.speeds.proved;
+    let Some(reference) = row.speeds.reference else {
+        return vec!["-".to_string(); REFERENCE_JOBS.len()];
+    };
     [
         reference.unpack,
         reference.synthesise,
@@ -105,43 +178,115 @@ fn reference_cells(row: &Row) -> Vec<String> {
     .to_vec()
 }
 
+/// Nanoseconds with two digits after the point, or one from 10 on.
+fn time_figure(nanoseconds: f64) -> String {
+    let digits = if nanoseconds < 10.0 { 2 } else { 1 };
+    format!("{nanoseconds:.digits$}")
+}
+
+/// Nanoseconds a sample at a speed in megasamples a second.
+fn time_cell(speed: f64) -> String {
+    time_figure(1e3 / speed)
+}
+
+/// Nanoseconds a sample of each job.
+fn time_cells(row: &Row) -> Vec<String> {
+    let proved = row.speeds.proved;
+    let speeds = [proved.unpack, proved.synthesise, proved.decode];
+    speeds.map(time_cell).to_vec()
+}
+
+/// The same, and beside libavcodec.
+fn time_cells_beside(row: &Row) -> Vec<String> {
+    let mut cells = time_cells(row);
+    cells.extend(libavcodec_cells(row, time_cell));
+    cells.extend(libavcodec_ratios(row).into_iter().take(1));
+    cells
+}
+
+/// The cells of a row of large numbers.
+fn exact_cells(row: &ExactRow) -> Vec<String> {
+    let [small, large] = row.largest;
+    let ScaledTimes {
+        small: small_time,
+        large: large_time,
+    } = row.times;
+    vec![
+        row.wavelet.to_string(),
+        small.to_string(),
+        time_figure(small_time),
+        large.to_string(),
+        time_figure(large_time),
+        figure(large_time / small_time),
+    ]
+}
+
+/// The cells of a row of refusals.
+fn refusal_cells(row: &RefusalRow) -> Vec<String> {
+    let mut cells = row.cells.to_vec();
+    cells.push(figure(row.microseconds));
+    cells
+}
+
 /// A number with two digits and more.
-fn figure(value: f64) -> String {
-    if value < 10.0 {
+pub fn figure(value: f64) -> String {
+    if value < 0.1 {
+        format!("{value:.3}")
+    } else if value < 10.0 {
         format!("{value:.2}")
     } else {
         format!("{value:.0}")
     }
 }
 
-/// Writes a table: its columns after those that name a row, and each row's cells for them.
-fn write_table(
-    f: &mut fmt::Formatter,
+/// Writes a table: its title, its columns, and each row's cells.
+pub fn write_table<R>(
+    f: &mut Formatter,
+    title: &str,
+    columns: &[&str],
+    rows: &[R],
+    cells: impl Fn(&R) -> Vec<String>,
+) -> fmt::Result {
+    writeln!(f, "{title}\n")?;
+    writeln!(f, "| {} |", columns.join(" | "))?;
+    writeln!(f, "{}|", "|---".repeat(columns.len()))?;
+    for row in rows {
+        writeln!(f, "| {} |", cells(row).join(" | "))?;
+    }
+    Ok(())
+}
+
+/// Writes a table of components: its columns and cells come after those that name a row.
+fn write_components(
+    f: &mut Formatter,
+    title: &str,
     rows: &[Row],
     columns: &[&str],
     cells: fn(&Row) -> Vec<String>,
 ) -> fmt::Result {
     let columns = [&HEAD, columns].concat();
-    writeln!(f, "| {} |", columns.join(" | "))?;
-    writeln!(f, "{}|", "|---".repeat(columns.len()))?;
-    for row in rows {
-        writeln!(f, "{} {} |", row.head(), cells(row).join(" | "))?;
-    }
-    Ok(())
+    write_table(f, title, &columns, rows, |row| {
+        [row.head.clone(), cells(row)].concat()
+    })
 }
 
 impl Display for Report {
-    fn fmt(&self, f: &mut fmt::Formatter) -> fmt::Result {
-        writeln!(f, "Megasamples a second, and ratios of decode.")?;
-        writeln!(
-            f,
-            "An asterisk: its samples are not document 01's, so they were not checked.\n"
-        )?;
-        write_table(f, &self.0, &DECODERS, decoder_cells)?;
-        writeln!(
-            f,
-            "\nThe reference beside it, and ratios of the other jobs.\n"
-        )?;
-        write_table(f, &self.0, &REFERENCE_JOBS, reference_cells)
+    fn fmt(&self, f: &mut Formatter) -> fmt::Result {
+        let title = "Megasamples a second, and ratios of decode.\n\
+            An asterisk: its samples are not document 01's, so they were not checked.";
+        write_components(f, title, &self.wavelets, &DECODERS, decoder_cells)?;
+        let title = "\nThe reference beside it, and ratios of the other jobs.";
+        write_components(f, title, &self.wavelets, &REFERENCE_JOBS, reference_cells)?;
+        let title = "\nEach job alone: nanoseconds a sample.";
+        write_components(f, title, &self.wavelets, &TIMES, time_cells)?;
+        let beside = [TIMES, TIMES_BESIDE].concat();
+        let title = "\nFrom small pictures to large ones: nanoseconds a sample.";
+        write_components(f, title, &self.sizes, &beside, time_cells_beside)?;
+        let title = "\nFrom few bits to many: nanoseconds a sample.";
+        write_components(f, title, &self.rates, &beside, time_cells_beside)?;
+        let title = "\nSynthesise of numbers too large for sums in 32 bits, beside small ones.";
+        write_table(f, title, &EXACT, &self.exact, exact_cells)?;
+        let title = "\nWhat a refusal costs.";
+        write_table(f, title, &REFUSALS, &self.refusals, refusal_cells)
     }
 }
