@@ -1,78 +1,152 @@
-//! Synthesise on numbers too large for sums of 32 bits, beside the same picture with small ones.
+//! Synthesise on numbers too large for sums of 32 bits, beside the same numbers made small.
 
-use crate::contest::{Effort, Planes, PROVED, REFERENCE};
+use crate::contest::{Effort, Planes, PROVED};
 use crate::material::Material;
 use crate::race::{race, Contestant};
 use compare::safe_size;
+use reference::params::Orientation::{HH, HL, LH, LL};
+use reference::params::{padded_height, padded_width, subband, subbands, Parameters};
+use reference::transform::{interleave, shift_down, Grid, FILTERS};
 
-/// A component's coefficients as they are, and multiplied by a power of two.
-pub struct ScaledPair<'a> {
+/// How many bits the small numbers have fewer.
+const FEWER_BITS: u32 = 20;
+
+/// Large coefficients, and the same made small.
+pub struct LargeAndSmall<'a> {
     material: &'a Material,
-    small: Planes,
     large: Planes,
+    small: Planes,
+    /// How many of a hundred rows, at all levels, have a number past those that the filter surely lifts
+    /// in 32 bits.
+    large_rows: f64,
 }
 
-/// Nanoseconds a sample of synthesise on small numbers and on large ones.
+/// Nanoseconds a sample of synthesise on large numbers and on small ones.
 #[derive(Clone, Copy, Debug)]
-pub struct ScaledTimes {
-    pub small: f64,
+pub struct ExactTimes {
     pub large: f64,
+    pub small: f64,
 }
 
-impl ScaledTimes {
+impl ExactTimes {
     /// The best of each.
-    pub fn best(self, other: ScaledTimes) -> ScaledTimes {
-        ScaledTimes {
-            small: self.small.min(other.small),
+    pub fn best(self, other: ExactTimes) -> ExactTimes {
+        ExactTimes {
             large: self.large.min(other.large),
+            small: self.small.min(other.small),
         }
     }
 }
 
-/// The largest number of a plane, in size.
+/// The size of a plane's largest number.
 fn largest(plane: &[i32]) -> u32 {
     plane.iter().map(|c| c.unsigned_abs()).max().unwrap_or(0)
 }
 
-/// The planes with every coefficient multiplied by a power of two, if they still fit.
-fn scaled(planes: &Planes, power: u32) -> Option<Planes> {
-    let times = |c: &i32| c.checked_mul(1 << power);
-    Some(Planes {
-        coefficients: planes
-            .coefficients
-            .iter()
-            .map(times)
-            .collect::<Option<_>>()?,
-        ..planes.clone()
-    })
+/// Factors from 1 to nearly 2^31 in eighths, from small to large.
+fn factors() -> Vec<i64> {
+    (0..31)
+        .flat_map(|power| (8..16).map(move |eighths| eighths << power))
+        .collect()
 }
 
-impl ScaledPair<'_> {
-    /// A component's coefficients, and the same multiplied by the largest power of two with which
-    /// synthesise accepts them; or what is wrong with them.
-    pub fn of(material: &Material) -> Result<ScaledPair<'_>, String> {
-        let [unpack, synthesise, _] = PROVED;
-        let mut small = Planes::new(material);
-        unpack(material, &mut small);
-        let mut large = (1..=30)
-            .rev()
-            .filter_map(|power| scaled(&small, power))
-            .find(|planes| synthesise(material, &mut planes.clone()) == 0)
-            .ok_or("no power of two is accepted")?;
-        let bound = safe_size(material.parameters.wavelet);
-        if i64::from(largest(&large.coefficients)) <= bound {
-            return Err(format!("numbers up to {bound} are lifted in 32 bits"));
+/// Multiplies the coefficients of a level by a factor in eighths; answers whether they fit 32 bits still.
+/// Level 1 takes level 0 with it.
+fn scale(p: &Parameters, coefficients: &mut [i32], level: u32, factor: i64) -> bool {
+    let bands = subbands(p);
+    for band in bands.iter().filter(|band| band.level.max(1) == level) {
+        for y in band.top..band.top + band.height {
+            let row = &mut coefficients[y * padded_width(p) + band.left..][..band.width];
+            for c in row {
+                let Ok(product) = i32::try_from(i64::from(*c) * factor / 8) else {
+                    return false;
+                };
+                *c = product;
+            }
         }
-        let mut expected = large.clone();
-        synthesise(material, &mut large);
-        let [_, synthesise, _] = REFERENCE;
-        if synthesise(material, &mut expected) != 0 || large != expected {
+    }
+    true
+}
+
+/// A component's coefficients, level by level as large as synthesise accepts them.
+fn enlarged(material: &Material) -> Planes {
+    let [unpack, synthesise, _] = PROVED;
+    let p = &material.parameters;
+    let mut planes = Planes::new(material);
+    unpack(material, &mut planes);
+    let mut tried = planes.clone();
+    let factors = factors();
+    for level in 1..=p.depth {
+        let count = factors.partition_point(|factor| {
+            tried.coefficients.copy_from_slice(&planes.coefficients);
+            scale(p, &mut tried.coefficients, level, *factor)
+                && synthesise(material, &mut tried) == 0
+        });
+        // With the first factor, 1, they are as they were, and accepted.
+        scale(p, &mut planes.coefficients, level, factors[count - 1]);
+    }
+    planes
+}
+
+/// Synthesis by the reference's steps: the samples, and how many of a hundred rows have a number above a
+/// bound when the rows of their level are filtered.
+fn synthesise_by_steps(p: &Parameters, coefficients: &[i32], bound: i128) -> (Vec<i128>, f64) {
+    let plane = Grid {
+        width: padded_width(p),
+        height: padded_height(p),
+        numbers: coefficients.iter().map(|&c| i128::from(c)).collect(),
+    };
+    let filter = &FILTERS[p.wavelet as usize];
+    let mut picture = plane.subband(&subband(p, 0, LL));
+    let (mut rows, mut large_rows) = (0, 0);
+    for level in 1..=p.depth {
+        let [hl, lh, hh] = [HL, LH, HH].map(|band| plane.subband(&subband(p, level, band)));
+        picture = interleave(&picture, &hl, &lh, &hh);
+        picture.filter_columns(filter.steps);
+        let is_large = |row: &&[i128]| row.iter().any(|number| number.abs() > bound);
+        rows += picture.height;
+        large_rows += picture
+            .numbers
+            .chunks(picture.width)
+            .filter(is_large)
+            .count();
+        picture.filter_rows(filter.steps);
+        if filter.shift == 1 {
+            for number in &mut picture.numbers {
+                *number = shift_down(*number);
+            }
+        }
+    }
+    let rows_of_picture = picture
+        .numbers
+        .chunks(picture.width)
+        .take(p.height as usize);
+    let samples = rows_of_picture.flat_map(|row| row[..p.width as usize].to_vec());
+    (samples.collect(), 100.0 * large_rows as f64 / rows as f64)
+}
+
+impl LargeAndSmall<'_> {
+    /// The coefficients of a component, level by level as large as synthesise accepts them, and the same
+    /// made small; or that synthesise gives other samples than the reference's steps.
+    pub fn of(material: &Material) -> Result<LargeAndSmall<'_>, String> {
+        let [_, synthesise, _] = PROVED;
+        let p = &material.parameters;
+        let mut large = enlarged(material);
+        let mut small = large.clone();
+        for c in &mut small.coefficients {
+            *c >>= FEWER_BITS;
+        }
+        let bound = safe_size(p.wavelet);
+        let (samples, large_rows) = synthesise_by_steps(p, &large.coefficients, bound.into());
+        let status = synthesise(material, &mut large);
+        if status != 0 || !large.samples.iter().map(|&v| i128::from(v)).eq(samples) {
             return Err("the reference differs on large numbers".to_string());
         }
-        Ok(ScaledPair {
+        Ok(LargeAndSmall {
             material,
-            small,
             large,
+            small,
+            large_rows,
         })
     }
 
@@ -81,23 +155,28 @@ impl ScaledPair<'_> {
         self.material.parameters.wavelet
     }
 
-    /// The size of the largest coefficient: of the small ones, and of the large ones.
+    /// The sizes of the largest of the large and of the small numbers.
     pub fn largest(&self) -> [u32; 2] {
-        [&self.small, &self.large].map(|planes| largest(&planes.coefficients))
+        [&self.large, &self.small].map(|planes| largest(&planes.coefficients))
+    }
+
+    /// How many of a hundred rows have a number past those that the filter surely lifts in 32 bits.
+    pub fn large_rows(&self) -> f64 {
+        self.large_rows
     }
 
     /// How long synthesise takes on either.
-    pub fn measure(&self, effort: Effort) -> ScaledTimes {
+    pub fn measure(&self, effort: Effort) -> ExactTimes {
         let [_, synthesise, _] = PROVED;
         let samples = self.material.samples();
-        let mut contestants = [&self.small, &self.large].map(|planes| {
+        let mut contestants = [&self.large, &self.small].map(|planes| {
             let mut planes = planes.clone();
             Contestant::new(samples, effort.rounds, move || {
                 assert_eq!(synthesise(self.material, &mut planes), 0, "checked");
             })
         });
         race(&mut contestants);
-        let [small, large] = contestants.map(|c| 1e9 * c.seconds() / samples as f64);
-        ScaledTimes { small, large }
+        let [large, small] = contestants.map(|c| 1e9 * c.seconds() / samples as f64);
+        ExactTimes { large, small }
     }
 }

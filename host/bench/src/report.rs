@@ -1,7 +1,7 @@
 //! The tables.
 
 use crate::contest::{libavcodec_agrees, Speeds};
-use crate::exact::{ScaledPair, ScaledTimes};
+use crate::exact::{ExactTimes, LargeAndSmall};
 use crate::material::Material;
 use crate::refusals::Call;
 use std::fmt::{self, Display, Formatter};
@@ -52,19 +52,21 @@ pub struct Report {
     pub refusals: Vec<RefusalRow>,
 }
 
-/// Synthesise on small numbers and on large ones.
+/// Synthesise on large numbers and on small ones.
 pub struct ExactRow {
     wavelet: u32,
     largest: [u32; 2],
-    times: ScaledTimes,
+    large_rows: f64,
+    times: ExactTimes,
 }
 
 impl ExactRow {
-    /// The row of a pair.
-    pub fn new(pair: &ScaledPair, times: ScaledTimes) -> ExactRow {
+    /// The row of both.
+    pub fn new(both: &LargeAndSmall, times: ExactTimes) -> ExactRow {
         ExactRow {
-            wavelet: pair.wavelet(),
-            largest: pair.largest(),
+            wavelet: both.wavelet(),
+            largest: both.largest(),
+            large_rows: both.large_rows(),
             times,
         }
     }
@@ -115,12 +117,13 @@ const TIMES: [&str; 3] = ["unpack", "synthesise", "decode"];
 const TIMES_BESIDE: [&str; 3] = ["FFmpeg SIMD", "FFmpeg C", "decode / FFmpeg SIMD"];
 
 /// The columns of the table of large numbers.
-const EXACT: [&str; 6] = [
+const EXACT: [&str; 7] = [
     "wavelet",
+    "largest number",
+    "rows past 32 bits",
+    "large",
     "largest small number",
-    "ns a sample",
-    "largest large number",
-    "ns a sample",
+    "small",
     "large / small",
 ];
 
@@ -206,18 +209,16 @@ fn time_cells_beside(row: &Row) -> Vec<String> {
 
 /// The cells of a row of large numbers.
 fn exact_cells(row: &ExactRow) -> Vec<String> {
-    let [small, large] = row.largest;
-    let ScaledTimes {
-        small: small_time,
-        large: large_time,
-    } = row.times;
+    let [largest, largest_small] = row.largest;
+    let ExactTimes { large, small } = row.times;
     vec![
         row.wavelet.to_string(),
-        small.to_string(),
-        time_figure(small_time),
-        large.to_string(),
-        time_figure(large_time),
-        figure(large_time / small_time),
+        largest.to_string(),
+        format!("{:.0} %", row.large_rows),
+        time_figure(large),
+        largest_small.to_string(),
+        time_figure(small),
+        figure(large / small),
     ]
 }
 
@@ -284,7 +285,7 @@ impl Display for Report {
         write_components(f, title, &self.sizes, &beside, time_cells_beside)?;
         let title = "\nFrom few bits to many: nanoseconds a sample.";
         write_components(f, title, &self.rates, &beside, time_cells_beside)?;
-        let title = "\nSynthesise of numbers too large for sums in 32 bits, beside small ones.";
+        let title = "\nSynthesise of large numbers, beside small ones: nanoseconds a sample.";
         write_table(f, title, &EXACT, &self.exact, exact_cells)?;
         let title = "\nWhat a refusal costs.";
         write_table(f, title, &REFUSALS, &self.refusals, refusal_cells)

@@ -1,7 +1,7 @@
 //! What goes into which table, and the passes over all of it.
 
 use crate::contest::{check, measure, Effort, Speeds};
-use crate::exact::{ScaledPair, ScaledTimes};
+use crate::exact::{ExactTimes, LargeAndSmall};
 use crate::material::{
     Material, Plan, Rate, FULL_SIZE, ONE_WAVELET, OTHER_RATES, OTHER_SIZES, RATES, WAVELETS,
 };
@@ -64,7 +64,7 @@ fn is_of_exact(material: &Material) -> bool {
 /// What is measured in every pass, and the best of it so far.
 pub struct Tables<'a> {
     contests: Vec<(&'a Material, Option<Speeds>)>,
-    exact: Vec<(ScaledPair<'a>, Option<ScaledTimes>)>,
+    exact: Vec<(LargeAndSmall<'a>, Option<ExactTimes>)>,
     refusals: Vec<(Call, Option<f64>)>,
 }
 
@@ -80,7 +80,7 @@ impl Tables<'_> {
         let mut exact = Vec::new();
         let mut refusals = Vec::new();
         for material in components.iter().filter(|material| is_of_exact(material)) {
-            exact.push((ScaledPair::of(material)?, None));
+            exact.push((LargeAndSmall::of(material)?, None));
             if material.parameters.wavelet == ONE_WAVELET {
                 refusals = refusals::calls(material)?;
             }
@@ -106,8 +106,8 @@ impl Tables<'_> {
             };
             keep_best(best, measure(material, effort), Speeds::best);
         }
-        for (pair, best) in &mut self.exact {
-            keep_best(best, pair.measure(effort), ScaledTimes::best);
+        for (both, best) in &mut self.exact {
+            keep_best(best, both.measure(effort), ExactTimes::best);
         }
         let (calls, bests): (Vec<_>, Vec<_>) =
             self.refusals.iter_mut().map(|(c, b)| (c, b)).unzip();
@@ -135,7 +135,7 @@ impl Tables<'_> {
             sizes: self.rows(is_of_sizes, Material::samples),
             rates: self.rows(is_of_rates, |material| material.body.len()),
             exact: exact
-                .map(|(pair, times)| ExactRow::new(pair, times.expect("a pass")))
+                .map(|(both, times)| ExactRow::new(both, times.expect("a pass")))
                 .collect(),
             refusals: refusals
                 .map(|(call, time)| RefusalRow::new(call, time.expect("a pass")))

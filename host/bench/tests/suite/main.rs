@@ -1,7 +1,7 @@
 //! Tests on small pictures; no figure is tested.
 
 use bench::contest::{check, measure, Effort};
-use bench::exact::ScaledPair;
+use bench::exact::LargeAndSmall;
 use bench::instructions::{collected, valgrind_version, CountReport, Counts};
 use bench::libavcodec::Libavcodec;
 use bench::material::{Material, Plan, Rate};
@@ -96,14 +96,14 @@ const ONE_TURN: Effort = Effort {
 };
 
 #[test]
-fn large_numbers_are_as_large_as_synthesise_accepts() {
+fn large_numbers_are_large_and_small_ones_small() {
     for wavelet in 0..=6 {
         let material = material(wavelet);
-        let pair = ScaledPair::of(&material).unwrap();
-        let [small, large] = pair.largest();
-        assert_eq!(large, small << (large / small).ilog2());
-        assert!(large > 1 << 24 && pair.wavelet() == wavelet);
-        let times = pair.measure(ONE_TURN);
+        let both = LargeAndSmall::of(&material).unwrap();
+        let [large, small] = both.largest();
+        assert!(large > 1 << 29 && small < 1 << 12, "{large}, {small}");
+        assert!(both.wavelet() == wavelet && both.large_rows() > 10.0);
+        let times = both.measure(ONE_TURN);
         assert!(times.small > 0.0 && times.large > 0.0);
     }
 }
@@ -155,13 +155,13 @@ fn the_report_has_a_row_for_each_component() {
     let mut speeds = measure(&material, ONE_TURN);
     speeds.libavcodec = None;
     let row = Row::new(&material, speeds);
-    let pair = ScaledPair::of(&material).unwrap();
+    let both = LargeAndSmall::of(&material).unwrap();
     let calls = calls(&material).unwrap();
     let report = Report {
         wavelets: vec![row.clone()],
         sizes: vec![row.clone(), row],
         rates: vec![],
-        exact: vec![ExactRow::new(&pair, pair.measure(ONE_TURN))],
+        exact: vec![ExactRow::new(&both, both.measure(ONE_TURN))],
         refusals: vec![RefusalRow::new(&calls[0], 0.025)],
     };
     let text = report.to_string();
