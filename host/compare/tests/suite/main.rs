@@ -3,6 +3,7 @@
 mod agreement;
 mod borders;
 mod command;
+mod fast_paths;
 mod fences;
 mod generator;
 mod threads;
