@@ -83,7 +83,7 @@ impl RefusalRow {
     pub fn new(call: &Call, microseconds: f64) -> RefusalRow {
         let status = call.answer.status.to_string();
         RefusalRow {
-            cells: [call.job.to_string(), status, call.place.clone()],
+            cells: [call.job.name().to_string(), status, call.place.to_string()],
             microseconds,
         }
     }
