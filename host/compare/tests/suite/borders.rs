@@ -5,6 +5,7 @@ use reference::codes::{BitReader, PastEnd};
 use reference::params::{subbands, Parameters, Subband};
 use reference::unpack::codeblock_start;
 use std::collections::{BTreeMap, BTreeSet};
+use std::sync::OnceLock;
 
 /// A number's code in the data of a subband.
 struct Code {
@@ -82,10 +83,15 @@ fn codes(p: &Parameters, bytes: &[u8]) -> Vec<(u64, Vec<Code>)> {
     list
 }
 
-/// The first cases of a kind.
-fn cases(kind: Kind, count: usize) -> impl Iterator<Item = Case> {
-    let is_of_kind = move |case: &Case| case.kind == kind;
-    (1..).map(Case::from_seed).filter(is_of_kind).take(count)
+/// The first cases, made once for all tests.
+fn first_cases() -> &'static [Case] {
+    static CASES: OnceLock<Vec<Case>> = OnceLock::new();
+    CASES.get_or_init(|| (1..=24_000).map(Case::from_seed).collect())
+}
+
+/// Those of a kind.
+fn cases(kind: Kind) -> impl Iterator<Item = &'static Case> {
+    first_cases().iter().filter(move |case| case.kind == kind)
 }
 
 /// What unpack answers.
@@ -97,7 +103,7 @@ fn unpack_status(case: &Case) -> u32 {
 fn runs_of_zeros_cross_the_ends_of_rows() {
     let mut crossed = BTreeSet::new();
     let mut before_codes = BTreeSet::new();
-    for case in cases(Kind::Runs, 600) {
+    for case in cases(Kind::Runs) {
         for (_, codes) in codes(&case.parameters, &case.bytes) {
             let mut run = 0;
             let mut room = 0;
@@ -127,7 +133,7 @@ fn runs_of_zeros_cross_the_ends_of_rows() {
 #[test]
 fn codes_of_every_length_stand_at_every_bit_of_a_byte() {
     let mut inside = BTreeMap::new();
-    for case in cases(Kind::Codes, 600) {
+    for case in cases(Kind::Codes) {
         for (_, codes) in codes(&case.parameters, &case.bytes) {
             for code in codes.iter().filter(|code| code.at + code.bits <= code.end) {
                 *inside.entry((code.bits, code.at % 8)).or_insert(0) += 1;
@@ -145,8 +151,8 @@ fn codes_of_every_length_stand_at_every_bit_of_a_byte() {
 fn data_ends_behind_and_inside_its_last_code() {
     let mut bytes_behind = BTreeSet::new();
     let mut bits_inside = BTreeSet::new();
-    for case in cases(Kind::Ends, 600) {
-        assert!(matches!(unpack_status(&case), 0 | 9));
+    for case in cases(Kind::Ends) {
+        assert!(matches!(unpack_status(case), 0 | 9));
         for (_, codes) in codes(&case.parameters, &case.bytes) {
             let Some(last) = codes.last() else {
                 continue;
@@ -171,8 +177,8 @@ fn small_numbers_just_fit_with_large_indices() {
     let mut fits = BTreeSet::new();
     let mut refused = 0;
     let mut accepted = 0;
-    for case in cases(Kind::LargeIndex, 600) {
-        match unpack_status(&case) {
+    for case in cases(Kind::LargeIndex) {
+        match unpack_status(case) {
             0 => accepted += 1,
             9 => refused += 1,
             status => panic!("status {status}"),
@@ -198,7 +204,7 @@ fn planes_have_every_size_at_which_a_path_may_end() {
     let mut kinds = BTreeSet::new();
     let mut near = BTreeSet::new();
     let mut brink = BTreeMap::new();
-    for case in (1..=24_000).map(Case::from_seed) {
+    for case in first_cases() {
         let p = &case.parameters;
         kinds.insert(case.plane_kind);
         if matches!(case.kind, Kind::Parameters | Kind::Planes) {
