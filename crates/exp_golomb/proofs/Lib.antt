@@ -4,4 +4,4 @@ pub mod CodeLaws
 pub mod Extent
 pub mod Followed
 pub mod WindowLaws
-pub mod ShortCodes
+pub mod StepLaws

@@ -1,23 +1,18 @@
--- Laws of the next bits as one number: its parts, the bytes it is made of, and what its first bits tell.
+-- Laws of the next bits as one number: its parts, the bytes that it is made of, and the bits at the top of a window.
 -- Assumes nothing.
 use mathlib.Core.Path.{_≡_, refl, sym, ap, _∙_}
-use mathlib.Core.Bool.{Bool, true}
+use mathlib.Core.Bool.{true}
 use mathlib.Core.List.{List}
 use Prim.Native.Nat.{ℕ, zero, suc, _+_, _-_, _*_, _/_, _%_, _^_, _≤_, _<_, min}
-use native.Mathlib.Nat.{add-zero, zero-add, add-suc, div-one, mul-assoc, pow-suc, mul-div-mul-right, le-div-iff-mul-le}
+use native.Mathlib.Nat.{add-zero, zero-add, add-suc, div-one, mul-assoc, pow-suc, mul-div-mul-right}
 use native.Mathlib.Numerals.{add-one}
 use native.Mathlib.Decide.{decLt}
 use native.Mathlib.Omega.{arith}
-use lib.Bits.{bitAnd}
-use lib.Count.{leadingZeros, leading-top}
-use lib.Dec.{eqb}
 use lib.ListN.{length, getD}
-use lib.Pow.{pow-pos, pow-add, pow-mono, high, low, field, shr-shr, high-ones}
-use borrow.Author.Tests.{lt-ltb, eqb-true}
-use Rattle.base.specs.Every.{allBelow}
-use Rattle.base.proofs.Everys.{all-at}
+use lib.Pow.{pow-pos, pow-add, high, low, field, shr-shr}
+use borrow.Author.Tests.{lt-ltb}
 use Rattle.exp_golomb.specs.Bits.{bitAt, present}
-use Rattle.exp_golomb.specs.Windows.{bitsFrom, Window, codeLength}
+use Rattle.exp_golomb.specs.Windows.{bitsFrom, Window, Ahead}
 use Rattle.exp_golomb.proofs.BitLaws.{bit-small}
 
 -- a shift up and a shift down are one shift down
@@ -33,13 +28,6 @@ halves : (b m : ℕ) → 2 * (b / 2 ^ suc m) + b / 2 ^ m % 2 ≡ b / 2 ^ m
 halves b m =
     let half : b / 2 ^ m / 2 ≡ b / 2 ^ suc m = shr-shr b m 1 ∙ ap (λ (n : ℕ). b / 2 ^ n) (add-one m) in
     rw (← half) (omega arith)
-
--- the powers of two up to 8
-pub small-power : (n : ℕ) → n ≤ 3 → (1 * 2 ^ n % 4294967296 ≡ 2 ^ n) × (1 ≤ 2 ^ n) × (2 ^ n ≤ 8)
-small-power n small =
-    let least = pow-pos n in
-    let most : 2 ^ n ≤ 8 = pow-mono {i = n} {j = 3} small in
-    (omega arith, omega arith, most)
 
 module _ (bytes : List ℕ) where
   abbrev bits : ℕ → ℕ → ℕ
@@ -113,15 +101,21 @@ module _ (bytes : List ℕ) where
       let s₃ : bits (8 * k) 32 ≡ bits (8 * k) 24 * 256 + bits (8 * k + 24) 8 = bits-split (8 * k) 24 8 in
       omega arith
 
-  -- 24 of the 32, from a place in the first byte on
-  pub window-bits : (at four : ℕ) → four ≡ bits (8 * (at / 8)) 32 → four * 2 ^ (at % 8) % 4294967296 / 256 ≡ bits at 24
-  window-bits at four e =
-      let whole : at % 8 + 24 + (8 - at % 8) ≡ 32 = omega arith in
+  -- twice four bytes are 64 bits
+  pub eight-bits : (k high low : ℕ) → high ≡ bits (8 * k) 32 → low ≡ bits (8 * (k + 4)) 32 → high * 4294967296 + low ≡ bits (8 * k) 64
+  eight-bits k high low e₀ e₁ =
+      let place : 8 * (k + 4) ≡ 8 * k + 32 = omega arith in
+      rw (e₀, e₁, place) (sym (bits-split (8 * k) 32 32))
+
+  -- 56 of the 64, from a place in the first byte on
+  pub window-bits : (at eight : ℕ) → eight ≡ bits (8 * (at / 8)) 64 → eight * 2 ^ (at % 8) % 2 ^ 64 / 256 ≡ bits at 56
+  window-bits at eight e =
+      let whole : at % 8 + 56 + (8 - at % 8) ≡ 64 = omega arith in
       let place : 8 * (at / 8) + at % 8 ≡ at = omega arith in
-      shifted four (at % 8) 24 8 (omega arith)
-      ∙ ap (λ (n : ℕ). n / 2 ^ (8 - at % 8) % 2 ^ 24) (e ∙ ap (bits (8 * (at / 8))) (sym whole))
-      ∙ bits-within (8 * (at / 8)) (at % 8) 24 (8 - at % 8)
-      ∙ ap (λ (i : ℕ). bits i 24) place
+      shifted eight (at % 8) 56 8 (omega arith)
+      ∙ ap (λ (n : ℕ). n / 2 ^ (8 - at % 8) % 2 ^ 56) (e ∙ ap (bits (8 * (at / 8))) (sym whole))
+      ∙ bits-within (8 * (at / 8)) (at % 8) 56 (8 - at % 8)
+      ∙ ap (λ (i : ℕ). bits i 56) place
 
   -- bits that make the largest number are ones
   all-ones : (i n : ℕ) → 2 ^ n ≤ bits i n + 1 → (j : ℕ) → j < n → bitAt bytes (i + j) ≡ 1
@@ -138,65 +132,49 @@ module _ (bytes : List ℕ) where
             rw last (omega arith)
       ]
 
-  module _ (at w : ℕ) (window : w / 256 ≡ bits at 24) where
-    -- the ones that start a window
-    pub window-ones : (z : ℕ) → z ≤ 16 → 4294967296 ≤ w + 2 ^ (32 - z) → (j : ℕ) → j < z → bitAt bytes (at + j) ≡ 1
-    window-ones z few large =
-        let whole : z + (24 - z) ≡ 24 = omega arith in
-        let all : z + (32 - z) ≡ 32 = omega arith in
-        let down : 8 + (24 - z) ≡ 32 - z = omega arith in
-        let first : w / 2 ^ (32 - z) ≡ bits at z =
-        ap (λ (n : ℕ). w / 2 ^ n) (sym down) ∙ sym (shr-shr w 8 (24 - z)) ∙ ap (λ (n : ℕ). n / 2 ^ (24 - z)) (window ∙ ap (bits at) (sym whole) ∙ bits-split at z (24 - z))
-        ∙ high (bits at z) (24 - z) (bits-small (at + z) (24 - z)) in
-        let top : 4294967296 - 2 ^ (32 - z) ≡ (2 ^ z - 1) * 2 ^ (32 - z) = ap (λ (n : ℕ). 2 ^ n - 2 ^ (32 - z)) (sym all) ∙ high-ones z (32 - z) in
-        let room : (2 ^ z - 1) * 2 ^ (32 - z) ≤ w = rw (← top) (omega arith) in
-        let most : 2 ^ z - 1 ≤ w / 2 ^ (32 - z) = le-div-iff-mul-le (pow-pos (32 - z)) .1 room in
-        all-ones at z (omega (arith, first))
+-- the bits at the top of a number of 64
+module _ (bytes : List ℕ) (end w i n : ℕ) (ahead : Ahead bytes end w i n) where
+  -- they are there
+  pub ahead-present : (j : ℕ) → j < n → present bytes end (i + j) ≡ true
+  unfolding present
+  ahead-present j below = lt-ltb (i + j) (min end (8 * length bytes)) (omega (arith, ahead .inside))
 
-    -- the eight bits after the first z
-    pub window-eight : (z : ℕ) → z ≤ 16 → w / 2 ^ (24 - z) % 256 ≡ bits (at + z) 8
-    window-eight z few =
-        let whole : z + 8 + (16 - z) ≡ 24 = omega arith in
-        let down : 8 + (16 - z) ≡ 24 - z = omega arith in
-        ap (λ (n : ℕ). w / 2 ^ n % 256) (sym down)
-        ∙ ap (λ (n : ℕ). n % 256) (sym (shr-shr w 8 (16 - z)) ∙ ap (λ (n : ℕ). n / 2 ^ (16 - z)) (window ∙ ap (bits at) (sym whole)))
-        ∙ bits-within at z 8 (16 - z)
+  -- the first m of them
+  pub ahead-first : (m : ℕ) → m ≤ n → w / 2 ^ (64 - m) ≡ bitsFrom bytes i m
+  ahead-first m fewer =
+      let few = ahead .few in
+      let whole : m + (n - m) ≡ n = omega arith in
+      let down : 64 - n + (n - m) ≡ 64 - m = omega arith in
+      ap (λ (k : ℕ). w / 2 ^ k) (sym down)
+      ∙ sym (shr-shr w (64 - n) (n - m))
+      ∙ ap (λ (k : ℕ). k / 2 ^ (n - m)) (ahead .top ∙ ap (bitsFrom bytes i) (sym whole) ∙ bits-split bytes i m (n - m))
+      ∙ high (bitsFrom bytes i m) (n - m) (bits-small bytes (i + m) (n - m))
 
--- the bits of a window are there
-pub window-present : (bytes : List ℕ) (end at : ℕ) → Window bytes end at → (j : ℕ) → j < 24 → present bytes end (at + j) ≡ true
-unfolding present
-window-present bytes end at there j below =
-    lt-ltb (at + j) (min end (8 * length bytes)) (omega (arith, there .before-end, there .four-bytes))
+  -- 16 ones
+  pub ahead-ones : 16 ≤ n → w / 2 ^ 48 ≡ 65535 → (j : ℕ) → j < 16 → bitAt bytes (i + j) ≡ 1
+  ahead-ones many ones =
+      let first = ahead-first 16 many in
+      all-ones bytes i 16 (omega arith)
 
--- the zeros above a number's highest one
-abbrev pub zeros : ℕ → ℕ
-zeros n = leadingZeros 32 n
+  -- those after the first b, once these are shifted out
+  pub ahead-shift : (b : ℕ) → b ≤ n → Ahead bytes end (w * 2 ^ b % 2 ^ 64) (i + b) (n - b)
+  ahead-shift b fewer =
+      let few = ahead .few in
+      let inside = ahead .inside in
+      let whole : b + (n - b) ≡ n = omega arith in
+      let parts : n - b + (64 - (n - b)) ≡ 64 = omega arith in
+      let down : 64 - (n - b) - b ≡ 64 - n = omega arith in
+      record {
+        few = omega arith;
+        top =
+            ap (λ (k : ℕ). w * 2 ^ b % 2 ^ k / 2 ^ (64 - (n - b))) (sym parts)
+            ∙ shifted w b (n - b) (64 - (n - b)) (omega arith)
+            ∙ ap (λ (k : ℕ). w / 2 ^ k % 2 ^ (n - b)) down
+            ∙ ap (λ (k : ℕ). k % 2 ^ (n - b)) (ahead .top ∙ ap (bitsFrom bytes i) (sym whole) ∙ bits-split bytes i b (n - b))
+            ∙ low (bitsFrom bytes i b) (n - b) (bits-small bytes (i + b) (n - b));
+        inside = omega arith;
+      }
 
-pub zeros-lead : (w : ℕ) → w < 4294934528 → (zeros (4294967295 - w) ≤ 16) × (4294967296 ≤ w + 2 ^ (32 - zeros (4294967295 - w)))
-zeros-lead w small =
-    let some : 0 < 4294967295 - w = omega arith in
-    let most : 4294967295 - w < 2 ^ 32 = omega arith in
-    let top = leading-top 32 (4294967295 - w) some most in
-    let count : zeros (4294967295 - w) + suc (top .0) ≡ 32 = top .1 in
-    let length-is : 32 - zeros (4294967295 - w) ≡ suc (top .0) = omega arith in
-    let below : 4294967295 - w < 2 ^ suc (top .0) = top .3 in
-    let few : zeros (4294967295 - w) ≤ 16 =
-    elim (decLt (top .0) 15) [
-      | yes short ↦
-          let bound : 2 ^ suc (top .0) ≤ 32768 = pow-mono {i = suc (top .0)} {j = 15} (omega arith) in
-          absurd (omega arith)
-      | no notShort ↦ omega arith
-    ] in
-    (few, rw length-is (omega arith))
-
--- how long a code is, by a test of all eight bits
-length-right : ℕ → Bool
-length-right c = eqb (zeros (bitAnd c 170)) (codeLength c + 22)
-
-all-right : allBelow 256 length-right ≡ true
-unfolding allBelow codeLength leadingZeros length-right
-all-right = refl
-
-pub length-zeros : (c : ℕ) → c < 256 → zeros (bitAnd c 170) ≡ codeLength c + 22
-unfolding length-right
-length-zeros c small = eqb-true (zeros (bitAnd c 170)) (codeLength c + 22) (all-at length-right 256 c all-right small)
+-- a window is 56 bits ahead
+pub window-ahead : (bytes : List ℕ) (end at w : ℕ) → Window bytes end at → w / 256 ≡ bitsFrom bytes at 56 → Ahead bytes end w at 56
+window-ahead bytes end at w there top = record { few = omega arith; top = top; inside = omega (arith, there .before-end, there .eight-bytes) }

@@ -1,34 +1,47 @@
--- The code's own forms: the next bits of data as one number, and the parts of a number code of at most eight bits.
+-- The code's own forms: the next bits of data as one number, and what a table tells of eight of them.
 -- No definition of the format rests on them.
-use Prim.Native.Nat.{ℕ, zero, suc, _+_, _-_, _*_, _/_, _%_, _^_, _≤_, _<_}
-use mathlib.Core.Bool.{Bool, cond}
-use mathlib.Core.List.{List}
+use Prim.Native.Nat.{ℕ, zero, suc, _+_, _-_, _*_, _/_, _%_, _^_, _≤_, _<_, min}
+use mathlib.Core.Path.{_≡_}
+use mathlib.Core.Logic.{_≢_}
+use mathlib.Core.Bool.{false}
+use mathlib.Core.List.{List, [], _∷_}
 use lib.Dec.{eqb}
-use lib.ListN.{length}
+use lib.ListN.{length, getD}
 use Rattle.exp_golomb.specs.Bits.{bitAt}
+use Rattle.exp_golomb.specs.Codes.{signed}
+use Rattle.exp_golomb.specs.declared.codes.Number.the-variants.{Read}
+use Rattle.exp_golomb.specs.declared.windows.Step.{Step}
 
 -- The n bits from place i on, as a number, the first at its top.
 unfoldable pub bitsFrom : List ℕ → ℕ → ℕ → ℕ
 bitsFrom bytes i zero = 0
 bitsFrom bytes i (suc n) = 2 * bitsFrom bytes i n + bitAt bytes (i + n)
 
--- The 24 bits from a place on are there, and so are four bytes from the place's own on.
+-- The 56 bits from a place on are there, and so are eight bytes from the place's own on.
 pub record Window (bytes : List ℕ) (end at : ℕ) : Type 0 where
-  pub before-end : at + 24 ≤ end
-  pub four-bytes : at / 8 + 3 < length bytes
+  pub before-end : at + 56 ≤ end
+  pub eight-bytes : at / 8 + 7 < length bytes
 
--- A bit of eight, counted from the bottom.
-abbrev pub bitOf : ℕ → ℕ → ℕ
-bitOf c k = c / 2 ^ k % 2
+-- The n bits at the top of w, a number of 64, are those from place i on, which are there.
+pub record Ahead (bytes : List ℕ) (end w i n : ℕ) : Type 0 where
+  pub few : n ≤ 64
+  pub top : w / 2 ^ (64 - n) ≡ bitsFrom bytes i n
+  pub inside : i + n ≤ min end (8 * length bytes)
 
--- How many bits a signed number's code takes that starts eight bits c: 2 stands for the code of 0, and 10 for one that does not end in them.
-unfoldable pub codeLength : ℕ → ℕ
-codeLength c =
-    cond (eqb (bitOf c 7) 1) 2 (cond (eqb (bitOf c 5) 1) 4 (cond (eqb (bitOf c 3) 1) 6 (cond (eqb (bitOf c 1) 1) 8 10)))
+-- A step is right of eight bits, taken as data of their own: ones start them, as many as the zeros; then there is no value, or one whose
+-- code ends where the step does.
+pub record Tells (c : ℕ) (s : Step) : Type 0 where
+  pub zeros-most : s .zeros ≤ 8
+  pub bits-most : s .bits ≤ 8
+  pub value-most : s .value < 30
+  pub ones : (j : ℕ) → j < s .zeros → bitAt (c ∷ []) j ≡ 1
+  pub none : s .count ≡ s .zeros → (s .value ≡ 0) × (s .bits ≡ s .zeros)
+  pub some : s .count ≢ s .zeros → (s .count ≡ s .zeros + 1) × (signed (c ∷ []) 8 false (s .zeros) ≡ Read (s .value / 2) (eqb (s .value % 2) 1) (s .bits))
 
--- The size and the sign of a number whose code takes 4, 6 or 8 bits.
-unfoldable pub shortSize : ℕ → ℕ → ℕ
-shortSize c len = 2 ^ (len / 2 - 1) - 1 + (4 * bitOf c 6 + 2 * bitOf c 4 + bitOf c 2) / 2 ^ (4 - len / 2)
+-- The step of a table's entry.
+unfoldable pub stepOf : ℕ → Step
+stepOf entry = record { zeros = entry / 16 % 16; count = entry / 16 % 16 + entry / 256 % 2; value = entry / 512; bits = entry % 16 }
 
-unfoldable pub shortMinus : ℕ → ℕ → Bool
-shortMinus c len = eqb (bitOf c (8 - len)) 1
+-- A table of steps is right of any eight bits.
+pub record Steps (table : List ℕ) : Type 0 where
+  pub each : (c : ℕ) → c < 256 → Tells c (stepOf (getD table c 0))

@@ -3,12 +3,6 @@ ghost use mathlib.Core.Path.{_≡_};
 ghost use Rattle.exp_golomb.specs.Codes.{statusOf, unsigned, signed};
 use crate::bits::Bit;
 use crate::bits::take_bit;
-use crate::windows::code_length;
-use crate::windows::eight_after;
-use crate::windows::is_window;
-use crate::windows::short_minus;
-use crate::windows::short_size;
-use crate::windows::window;
 
 // What reading a number finds. `next` is the place after the bits taken, which are never past the end.
 pub enum Number {
@@ -72,31 +66,6 @@ pub fn read_unsigned(bytes: &[u8], end: usize, stated: bool, at: usize) -> Numbe
 
 // The signed number whose code starts at a place of data that end at bit `end`, or where the bytes do.
 pub fn read_signed(bytes: &[u8], end: usize, stated: bool, at: usize) -> Number
-    ensures { λ r. ⌜ r ≡ signed (now (bytes .entry)) end stated at ⌝ }
-{
-    if is_window(bytes, end, at) {
-        let c = eight_after(window(bytes, at), 0);
-        let len = code_length(c);
-        if len == 2 {
-            return Number::Read {
-                size: 0,
-                minus: false,
-                next: at + 1,
-            };
-        }
-        if len <= 8 {
-            return Number::Read {
-                size: short_size(c, len),
-                minus: short_minus(c, len),
-                next: at + len as usize,
-            };
-        }
-    }
-    read_long(bytes, end, stated, at)
-}
-
-// The same, bit by bit, for a code that is long or stands near the end.
-fn read_long(bytes: &[u8], end: usize, stated: bool, at: usize) -> Number
     ensures { λ r. ⌜ r ≡ signed (now (bytes .entry)) end stated at ⌝ }
 {
     let number = read_unsigned(bytes, end, stated, at);

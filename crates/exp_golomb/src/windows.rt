@@ -1,84 +1,350 @@
-// The next bits of data as one number, and the parts of a number code of at most eight bits.
+// The next bits of data as one number, and what a table tells of eight of them.
 ghost use mathlib.Core.Path.{_≡_};
 ghost use mathlib.Core.Bool.{true};
-ghost use Prim.Native.Nat.{_+_, _-_, _/_, _%_, _^_, _≤_, _<_};
+ghost use Prim.Native.Nat.{_+_, _*_, _/_, _^_, _<_};
 ghost use lib.ListN.{length};
-ghost use Rattle.exp_golomb.specs.Windows.{bitsFrom, Window, codeLength, shortSize, shortMinus};
+ghost use Rattle.exp_golomb.specs.Windows.{bitsFrom, Window, Steps, Tells};
 
-// Whether the next 24 bits are there, in four bytes.
+// What a step over eight bits takes: so many zeros, with or without one more value, and the bits of all of them. The value is twice its
+// size, and one more where it is below 0. No bits stand for a code that does not end in the eight.
+pub struct Step {
+    pub zeros: usize,
+    pub count: usize,
+    pub value: usize,
+    pub bits: usize,
+}
+
+// Whether the next 56 bits are there, in eight bytes.
 pub fn is_window(bytes: &[u8], end: usize, at: usize) -> bool
     ensures { λ r. ⌜ (r ≡ true → Window (now (bytes .entry)) end at) ⌝ }
 {
-    if end < 24 {
+    if end < 56 {
         return false;
     }
-    at <= end - 24 && at / 8 + 3 < bytes.len()
+    at <= end - 56 && at / 8 + 7 < bytes.len()
 }
 
-// The next 24 bits, at the top of 32.
-pub fn window(bytes: &[u8], at: usize) -> u32
-    requires { ⌜ at / 8 + 3 < length (now bytes) ⌝ }
-    ensures { λ r. ⌜ r / 256 ≡ bitsFrom (now (bytes .entry)) at 24 ⌝ }
+// The next 56 bits, at the top of 64.
+pub fn window(bytes: &[u8], at: usize) -> u64
+    requires { ⌜ at / 8 + 7 < length (now bytes) ⌝ }
+    ensures { λ r. ⌜ r / 256 ≡ bitsFrom (now (bytes .entry)) at 56 ⌝ }
 {
     let i = at / 8;
-    let four = wide(bytes[i]) * 16777216
+    let high = four_bytes(bytes, i);
+    let low = four_bytes(bytes, i + 4);
+    (high * 4294967296 + low) << (at % 8)
+}
+
+// Four bytes as one number, the first at its top.
+fn four_bytes(bytes: &[u8], i: usize) -> u64
+    requires { ⌜ i + 3 < length (now bytes) ⌝ }
+    ensures { λ r. ⌜ (r < 4294967296) × (r ≡ bitsFrom (now (bytes .entry)) (8 * i) 32) ⌝ }
+{
+    wide(bytes[i]) * 16777216
         + wide(bytes[i + 1]) * 65536
         + wide(bytes[i + 2]) * 256
-        + wide(bytes[i + 3]);
-    four << (at % 8)
-}
-
-// How many ones start a window that does not start with 17 of them.
-pub fn leading_ones(w: u32) -> usize
-    requires { ⌜ w < 4294934528 ⌝ }
-    ensures { λ r. ⌜ (r ≤ 16) × (4294967296 ≤ w + 2 ^ (32 - r)) ⌝ }
-{
-    u32::leading_zeros(4294967295 - w) as usize
-}
-
-// The eight bits of a window after its first z.
-pub fn eight_after(w: u32, z: usize) -> u32
-    requires { ⌜ z ≤ 16 ⌝ }
-    ensures { λ r. ⌜ r ≡ w / 2 ^ (24 - z) % 256 ⌝ }
-{
-    (w << z) >> 24
-}
-
-// How many bits the code takes that starts eight bits: 4, 6 or 8; 2 stands for the code of 0, and 10 for a code that is longer.
-pub fn code_length(c: u32) -> u32
-    requires { ⌜ c < 256 ⌝ }
-    ensures { λ r. ⌜ r ≡ codeLength c ⌝ }
-{
-    u32::leading_zeros(c & 170) - 22
-}
-
-// Whether a code takes 4, 6 or 8 bits.
-pub fn is_short(len: u32) -> bool
-    ensures { λ r. ⌜ (r ≡ true → (4 ≤ len) × (len ≤ 8)) ⌝ }
-{
-    4 <= len && len <= 8
-}
-
-// The size of a number whose code takes 4, 6 or 8 bits.
-pub fn short_size(c: u32, len: u32) -> u32
-    requires { ⌜ (4 ≤ len) × (len ≤ 8) ⌝ }
-    ensures { λ r. ⌜ r ≡ shortSize c len ⌝ }
-{
-    let places = 4 * (c / 64 % 2) + 2 * (c / 16 % 2) + c / 4 % 2;
-    (1 << (len / 2 - 1)) - 1 + (places >> (4 - len / 2))
-}
-
-// Whether a number whose code takes 4, 6 or 8 bits is below 0.
-pub fn short_minus(c: u32, len: u32) -> bool
-    requires { ⌜ (4 ≤ len) × (len ≤ 8) ⌝ }
-    ensures { λ r. ⌜ r ≡ shortMinus c len ⌝ }
-{
-    (c >> (8 - len)) % 2 == 1
+        + wide(bytes[i + 3])
 }
 
 // A byte with room for more.
-fn wide(byte: u8) -> u32
+fn wide(byte: u8) -> u64
     ensures { λ r. ⌜ (r ≡ byte) × (r < 256) ⌝ }
 {
-    byte as u32
+    byte as u64
 }
+
+// Whether 16 ones start a window, each of them a 0.
+pub fn starts_with_ones(w: u64) -> bool
+    ensures { λ r. ⌜ (r ≡ true → w / 2 ^ 48 ≡ 65535) ⌝ }
+{
+    w >> 48 == 65535
+}
+
+// The step over the eight bits that start a window.
+pub fn step_at(table: &[u16; 256], w: u64) -> Step
+    requires { ⌜ Steps (now table) ⌝ }
+    ensures { λ r. ⌜ Tells (w / 2 ^ 56) r ⌝ }
+{
+    let c = (w >> 56) as usize;
+    let entry = spread(table[c]);
+    Step {
+        zeros: entry / 16 % 16,
+        count: entry / 16 % 16 + entry / 256 % 2,
+        value: entry / 512,
+        bits: entry % 16,
+    }
+}
+
+// An entry as a number of any size.
+fn spread(entry: u16) -> usize
+    ensures { λ r. ⌜ r ≡ entry ⌝ }
+{
+    entry as usize
+}
+
+// The steps over all eight bits.
+pub fn step_table() -> [u16; 256]
+    ensures { λ r. ⌜ Steps r ⌝ }
+{
+    STEPS
+}
+
+// The value, whether there is one, the zeros and the bits, each in a part of an entry: 512 · value + 256 · one + 16 · zeros + bits.
+const STEPS: [u16; 256] = [
+    0,
+    0,
+    7432,
+    7944,
+    0,
+    0,
+    8456,
+    8968,
+    3334,
+    3334,
+    3334,
+    3334,
+    3846,
+    3846,
+    3846,
+    3846,
+    0,
+    0,
+    9480,
+    9992,
+    0,
+    0,
+    10504,
+    11016,
+    4358,
+    4358,
+    4358,
+    4358,
+    4870,
+    4870,
+    4870,
+    4870,
+    1284,
+    1284,
+    1284,
+    1284,
+    1284,
+    1284,
+    1284,
+    1284,
+    1284,
+    1284,
+    1284,
+    1284,
+    1284,
+    1284,
+    1284,
+    1284,
+    1796,
+    1796,
+    1796,
+    1796,
+    1796,
+    1796,
+    1796,
+    1796,
+    1796,
+    1796,
+    1796,
+    1796,
+    1796,
+    1796,
+    1796,
+    1796,
+    0,
+    0,
+    11528,
+    12040,
+    0,
+    0,
+    12552,
+    13064,
+    5382,
+    5382,
+    5382,
+    5382,
+    5894,
+    5894,
+    5894,
+    5894,
+    0,
+    0,
+    13576,
+    14088,
+    0,
+    0,
+    14600,
+    15112,
+    6406,
+    6406,
+    6406,
+    6406,
+    6918,
+    6918,
+    6918,
+    6918,
+    2308,
+    2308,
+    2308,
+    2308,
+    2308,
+    2308,
+    2308,
+    2308,
+    2308,
+    2308,
+    2308,
+    2308,
+    2308,
+    2308,
+    2308,
+    2308,
+    2820,
+    2820,
+    2820,
+    2820,
+    2820,
+    2820,
+    2820,
+    2820,
+    2820,
+    2820,
+    2820,
+    2820,
+    2820,
+    2820,
+    2820,
+    2820,
+    17,
+    17,
+    17,
+    17,
+    3351,
+    3351,
+    3863,
+    3863,
+    17,
+    17,
+    17,
+    17,
+    4375,
+    4375,
+    4887,
+    4887,
+    1301,
+    1301,
+    1301,
+    1301,
+    1301,
+    1301,
+    1301,
+    1301,
+    1813,
+    1813,
+    1813,
+    1813,
+    1813,
+    1813,
+    1813,
+    1813,
+    17,
+    17,
+    17,
+    17,
+    5399,
+    5399,
+    5911,
+    5911,
+    17,
+    17,
+    17,
+    17,
+    6423,
+    6423,
+    6935,
+    6935,
+    2325,
+    2325,
+    2325,
+    2325,
+    2325,
+    2325,
+    2325,
+    2325,
+    2837,
+    2837,
+    2837,
+    2837,
+    2837,
+    2837,
+    2837,
+    2837,
+    34,
+    34,
+    3368,
+    3880,
+    34,
+    34,
+    4392,
+    4904,
+    1318,
+    1318,
+    1318,
+    1318,
+    1830,
+    1830,
+    1830,
+    1830,
+    34,
+    34,
+    5416,
+    5928,
+    34,
+    34,
+    6440,
+    6952,
+    2342,
+    2342,
+    2342,
+    2342,
+    2854,
+    2854,
+    2854,
+    2854,
+    51,
+    51,
+    51,
+    51,
+    1335,
+    1335,
+    1847,
+    1847,
+    51,
+    51,
+    51,
+    51,
+    2359,
+    2359,
+    2871,
+    2871,
+    68,
+    68,
+    1352,
+    1864,
+    68,
+    68,
+    2376,
+    2888,
+    85,
+    85,
+    85,
+    85,
+    102,
+    102,
+    119,
+    136,
+];

@@ -3,7 +3,7 @@
 pub mod Runs
 pub mod QuantiserLaws
 pub mod ValueLaws
-pub mod ZeroRuns
+pub mod BatchLaws
 pub mod BlockLaws
 pub mod CodeblockTiling
 pub mod PredictionLaws

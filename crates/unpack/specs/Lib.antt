@@ -5,3 +5,4 @@ pub mod Prediction
 pub mod Subband
 pub mod Job
 pub mod Bounds
+pub mod Batches

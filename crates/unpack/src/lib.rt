@@ -1,4 +1,5 @@
 // Document 01, "One subband": the unpack job, from bytes to coefficients.
+pub mod batches;
 pub mod codeblocks;
 pub mod prediction;
 pub mod progress;

@@ -1,89 +1,68 @@
--- `exp_golomb::codes::read_signed` meets its contract: where the next bits are there, they tell a short code; any other code is read bit by bit.
+-- `exp_golomb::codes::read_signed` meets its contract: the sign bit is taken after a number that was read and is not 0.
 -- Assumes nothing.
 use mathlib.Core.Path.{sym, _∙_}
-use Prim.Native.Nat.{_≤_}
+use mathlib.Core.Logic.{⊎-elim}
 use native.Mathlib.Omega.{arith}
 use borrow.Author.Needs.{needs}
-use denote.Ref.{now}
-use Rattle.exp_golomb.specs.Windows.{Window}
-use Rattle.exp_golomb.proofs.ShortCodes.{length-least, window-zero, window-short}
+use Rattle.exp_golomb.specs.Codes.{signed}
+use Rattle.exp_golomb.proofs.CodeLaws.{sign-refused, sign-none, sign-missing, sign-read}
 use Rattle.exp_golomb.proofs.codes.read_signed.Statement.{statement}
 use Rattle.exp_golomb.proofs.codes.read_signed.Tie as tie
 
-is-window-requires : tie.Need-is-window-requires
-is-window-requires c κs = search needs
+read-unsigned-requires : tie.Need-read-unsigned-requires
+read-unsigned-requires c κs = search needs
 
--- the next bits are there
-there : (c : tie.Then1) → let args = c .before .before .before .args in Window (now (args .bytes)) (args .end) (args .at)
-there c = c .before .is-window .ensures (c .if1 .taken)
-
-window-requires : tie.Need-window-requires
-window-requires c κs = there c .four-bytes
-
-eight-after-requires : tie.Need-eight-after-requires
-eight-after-requires c κs = search needs
-
-code-length-requires : tie.Need-code-length-requires
-code-length-requires c κs = search needs
-
-add-t10 : tie.Need-add-t10
-add-t10 c = omega (arith, there (c .before .before .before .before) .before-end, c .before .before .before .before .before .before .before .fits .end)
+enum-known-number : tie.Need-enum-known-number
+enum-known-number c = search needs
 
 returns : tie.Need-returns
+unfolding signed
 returns c =
-    let window = c .before .before .before .window in
-    sym (window-zero _ _ _ _ (window .result) 0 _ _ (there (c .before .before .before .before)) (window .ensures) (omega arith) (omega arith) (c .before .before .eight-after .ensures)
-    _ (c .before .code-length .ensures) (c .if2 .taken))
-
--- the code takes 4, 6 or 8 bits
-least : (c : tie.Then3) → 4 ≤ c .before .before .code-length .result
-least c =
-    let length = c .before .before .code-length in
-    let other = length-least (c .before .before .before .eight-after .result) (λ two. c .before .if2 .left (length .ensures ∙ two)) in
-    omega (arith, length .ensures)
-
-short-size-requires : tie.Need-short-size-requires
-short-size-requires c κs = (least c, c .if3 .taken)
-
-short-minus-requires : tie.Need-short-minus-requires
-short-minus-requires c κs = (least (c .before), c .before .if3 .taken)
-
-cast-t13 : tie.Need-cast-t13
-cast-t13 c = search needs
-
-add-t14 : tie.Need-add-t14
-add-t14 c =
-    let head = c .before .before .before .before .before .before .before in
-    omega (arith, c .before .before .if3 .taken, there head .before-end, head .before .before .before .fits .end)
+    rw (← c .before .read-unsigned .ensures)
+    (sym (sign-refused _ _ _ (c .before .read-unsigned .result)
+    (λ size minus next e. ⊎-elim (λ w. let none = rw e at w in omega arith) (λ w. let none = rw e at w in omega arith) (c .match .keys2))))
 
 returns-2 : tie.Need-returns-2
+unfolding signed
 returns-2 c =
-    let past = c .before .before in
-    let window = past .before .before .before .before .window in
-    rw (c .before .short-size .ensures, c .short-minus .ensures)
-    (sym (window-short _ _ _ _ (window .result) 0 _ _ (there (past .before .before .before .before .before)) (window .ensures) (omega arith) (omega arith)
-    (past .before .before .before .eight-after .ensures) _ (past .before .before .code-length .ensures) (least past) (past .if3 .taken)))
+    let number = c .before .before .before .before .read-unsigned in
+    rw (← number .ensures) (sym (sign-none _ _ _ (number .result) _ _ _ (c .before .before .number .given .1) (c .if1 .taken)))
 
-read-long-requires : tie.Need-read-long-requires
-read-long-requires c κs = search needs
+take-bit-requires : tie.Need-take-bit-requires
+take-bit-requires c κs = search needs
+
+enum-known-bit : tie.Need-enum-known-bit
+enum-known-bit c = search needs
+
+enum-told : tie.Need-enum-told
+enum-told c = search needs
 
 returns-3 : tie.Need-returns-3
-returns-3 c = search needs
+unfolding signed
+returns-3 c =
+    let past = c .before .before .before in
+    let number = past .before .before .before .before .read-unsigned in
+    rw (← number .ensures)
+    (sym (sign-missing _ _ _ (number .result) _ _ _ (past .before .before .number .given .1) (past .if1 .left) (sym (c .before .before .take-bit .ensures) ∙ c .enum-told .given .1)))
+
+returns-4 : tie.Need-returns-4
+unfolding signed
+returns-4 c =
+    let past = c .before .before .before .before in
+    let number = past .before .before .before .before .read-unsigned in
+    rw (← number .ensures)
+    (sym (sign-read _ _ _ (number .result) _ _ _ _ _ (past .before .before .number .given .1) (past .if1 .left) (sym (c .before .before .before .take-bit .ensures) ∙ c .before .bit .given .1)))
 
 pub read-signed-spec : {M : Type 1} → statement M
 read-signed-spec =
     tie.close
     (tie.spec
-    is-window-requires
-    window-requires
-    eight-after-requires
-    code-length-requires
-    add-t10
+    read-unsigned-requires
+    enum-known-number
     returns
-    short-size-requires
-    short-minus-requires
-    cast-t13
-    add-t14
     returns-2
-    read-long-requires
-    returns-3)
+    take-bit-requires
+    enum-known-bit
+    enum-told
+    returns-3
+    returns-4)

@@ -17,10 +17,10 @@ add-result : tie.Need-add-result
 add-result c = search needs
 
 returns-2 : tie.Need-returns-2
-returns-2 c = λ e. record { before-end = omega arith; four-bytes = ltb-true _ _ e }
+returns-2 c = λ e. record { before-end = omega arith; eight-bytes = ltb-true _ _ e }
 
 returns-3 : tie.Need-returns-3
-returns-3 c = λ e. absurd (omega (arith, leb-true (c .before .before .args .at) (c .before .before .args .end - 24) e))
+returns-3 c = λ e. absurd (omega (arith, leb-true (c .before .before .args .at) (c .before .before .args .end - 56) e))
 
 pub is-window-spec : {M : Type 1} → statement M
 is-window-spec = tie.close (tie.spec returns add-result returns-2 returns-3)

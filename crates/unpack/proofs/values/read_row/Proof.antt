@@ -6,16 +6,19 @@ use native.Mathlib.Omega.{arith}
 use borrow.Author.Needs.{needs}
 use lib.ListN.{length}
 use Rattle.unpack.specs.Reading.{goesOn, row}
-use Rattle.unpack.proofs.ZeroRuns.{row-none, row-adds, row-ends}
+use Rattle.unpack.proofs.BatchLaws.{row-none, row-adds, row-ends, zeros-left}
 use Rattle.unpack.proofs.values.read_row.Statement.{statement}
 use Rattle.unpack.proofs.values.read_row.Tie as tie
 
 abbrev Inv-loop : tie.InvT-loop
-Inv-loop plane₀ place width bytes end at q bit₀ x₀ plane bit x =
+Inv-loop plane₀ place width bytes end at q table small ready bit₀ x₀ plane bit x =
     (x ≤ width) × (length plane ≡ length plane₀) × (row bytes end (q .index) place x (goesOn at plane₀) ≡ goesOn bit plane)
 
 abbrev μ-loop : tie.MeasureT-loop
-μ-loop plane₀ place width bytes end at q bit₀ x₀ plane bit x = width - x
+μ-loop plane₀ place width bytes end at q table small ready bit₀ x₀ plane bit x = width - x
+
+is-ready-requires : tie.Need-is-ready-requires Inv-loop μ-loop
+is-ready-requires c κs = search needs
 
 loop-holds : tie.Need-loop-holds Inv-loop μ-loop
 loop-holds c = (omega arith, refl, row-none _ _ _ _ _)
@@ -27,7 +30,17 @@ sub-read-some : tie.Need-sub-read-some Inv-loop μ-loop
 sub-read-some c = omega arith
 
 read-some-requires : tie.Need-read-some-requires Inv-loop μ-loop
-read-some-requires c κs = (omega arith, omega arith, c .before .before .before .before .pre .1)
+read-some-requires c κs =
+    let head = c .before .before in
+    let ready = head .before .is-ready in
+    let start = head .before .before .before .before in (
+      omega arith,
+      omega arith,
+      start .pre .1,
+      λ e. (ready .ensures e .0, zeros-left _ _ _ _ _ _ (head .loop .x) _ _ (head .loop .inv .0) (ready .ensures e .1) (head .loop .inv .2)),
+      start .pre .2,
+      start .pre .3,
+    )
 
 enum-known-progress : tie.Need-enum-known-progress Inv-loop μ-loop
 enum-known-progress c = search needs
@@ -66,7 +79,7 @@ same-length-2 c = c .before .loop .inv .1
 
 returns-2 : tie.Need-returns-2 Inv-loop μ-loop
 returns-2 c =
-    let all : c .before .loop .x ≡ c .before .before .before .args .width = omega arith in
+    let all : c .before .loop .x ≡ c .before .before .before .before .before .args .width = omega arith in
     sym (rw all at (c .before .loop .inv .2))
 
 pub read-row-spec : {M : Type 1} → statement M
@@ -75,6 +88,7 @@ read-row-spec =
     (tie.spec
     Inv-loop
     μ-loop
+    is-ready-requires
     loop-holds
     add-read-some
     sub-read-some
