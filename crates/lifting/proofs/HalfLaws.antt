@@ -1,6 +1,6 @@
 -- The laws of a row that stands as two halves: what stands where, and what a step makes of it.
 -- Assumes nothing.
-use mathlib.Core.Path.{_≡_, sym, ap, _∙_}
+use mathlib.Core.Path.{_≡_, sym, ap, _∙_, subst}
 use mathlib.Core.Bool.{Bool, true, false, not, cond, _&&_, _||_, and-true}
 use mathlib.Core.List.{List}
 use Prim.Native.Nat.{ℕ, suc, _+_, _-_, _*_, _/_, _%_, _^_, _≤_, _<_, min}
@@ -22,14 +22,14 @@ use Rattle.lines.proofs.BufferLaws.{woven-even, woven-odd}
 use Rattle.lifting.specs.Lifting.{Line, rounding, changes, lift}
 use Rattle.lifting.specs.Passes.{rows, run, newFit, assigns}
 use Rattle.lifting.specs.Layout.{targetRow, sourceRow, halfPlace}
-use Rattle.lifting.specs.Reach.{staysSmall, targetAfter, reachOf, reachAfter, HalvesReach}
+use Rattle.lifting.specs.Reach.{reachOf, sourceReach, targetReach, reachAfter, HalvesReach}
 use Rattle.lifting.specs.Table.{typeOf, stepOf, Sane}
 use Rattle.lifting.specs.declared.filters.LiftingStep.{LiftingStep}
 use Rattle.lifting.specs.declared.reach.Reach.{Reach}
 use Rattle.lifting.proofs.Lifts.{lift-keeps}
 use Rattle.lines.proofs.SumLaws.{sum-same}
 use Rattle.lifting.proofs.Taps.{type-says, lift-at-target}
-use Rattle.lifting.proofs.ReachLaws.{product-fits, new-fits, after-size, after-most, after-even, after-odd}
+use Rattle.lifting.proofs.ReachLaws.{after-size, target-reach-after, source-reach-after, reach-most}
 use Rattle.lifting.proofs.RowLaws.{all-pairs}
 
 -- an even place, and an odd one
@@ -221,24 +221,24 @@ half-kept b source extended ends k inside =
 
 -- What lifting one half by the other leaves: whether the new entries fit, and where they do the half with them, the other half as it was, and
 -- the bound that the new entries are within.
-abbrev pub HalfLifted : LiftingStep → ℕ → ℕ → ℕ → List ℤ → List ℤ → Bool → List ℤ → List ℤ → Type 0
-HalfLifted r b m most target source answer target' source' =
+abbrev pub HalfLifted : LiftingStep → ℕ → Reach → List ℤ → List ℤ → Bool → List ℤ → List ℤ → Type 0
+HalfLifted r b reach target source answer target' source' =
     (answer ≡ allBelow b (λ k. fits32 (newEntry r b target source k)))
     × ((answer ≡ true → (k : ℕ) → k < b → getD target' (4 + k) (pos 0) ≡ newEntry r b target source k)
-    × (((k : ℕ) → k < b → getD source' (4 + k) (pos 0) ≡ getD source (4 + k) (pos 0)) × (answer ≡ true → Within target' 4 b (targetAfter r m most))))
+    × (((k : ℕ) → k < b → getD source' (4 + k) (pos 0) ≡ getD source (4 + k) (pos 0)) × (answer ≡ true → Within target' 4 b (targetReach r (reachAfter r reach)))))
 
 -- What is known before the sums of a step are made: the half that is read has its ends repeated, the taps' places start at the lead, and both
 -- halves are within their bounds.
-pub record HalfRead (r : LiftingStep) (b m most : ℕ) (target source extended : List ℤ) (places : List ℕ) : Type 0 where
+pub record HalfRead (r : LiftingStep) (b : ℕ) (reach : Reach) (target source extended : List ℤ) (places : List ℕ) : Type 0 where
   pub sane : Sane r
   pub some : 1 ≤ b
   pub ends : (s : ℕ) → s < b + 8 → getD extended s (pos 0) ≡ getD source (heldEntry b s) (pos 0)
   pub placed : (t : ℕ) → t < 8 → getD places t 0 ≡ r .lead + t
-  pub targets : Within target 4 b most
-  pub sources : Within source 4 b m
+  pub targets : Within target 4 b (targetReach r reach)
+  pub sources : Within source 4 b (sourceReach r reach)
 
 module _
-    {r : LiftingStep} {b m most : ℕ} {target source extended : List ℤ} {places : List ℕ} (read : HalfRead r b m most target source extended places)
+    {r : LiftingStep} {b : ℕ} {reach : Reach} {target source extended : List ℤ} {places : List ℕ} (read : HalfRead r b reach target source extended places)
   where
     -- what a tap adds, and the bound of what it reads
     tap-same : (k t : ℕ) → k < b → t < r .count → tapAt (r .taps) places extended k t ≡ getD (r .taps) t (pos 0) *ℤ readEntry r b source k t
@@ -246,16 +246,13 @@ module _
     tap-same k t inside h =
         rw (read .placed t (omega (arith, read .sane .few-taps)), read .ends (r .lead + t + k) (omega (arith, read .sane .near)))
 
-    read-within : (k t : ℕ) → natAbs (readEntry r b source k t) ≤ m
+    read-within : (k t : ℕ) → natAbs (readEntry r b source k t) ≤ sourceReach r reach
     unfolding heldEntry
     read-within k t = read .sources (min (r .lead + t + k - 4) (b - 1)) (omega (arith, read .some))
 
-    -- where the step stays small, each tap leaves room for the others
-    pub half-product :
-        staysSmall r m most ≡ true → (t k : ℕ) → t < r .count → k < b
-        → r .count * natAbs (tapAt (r .taps) places extended k t) + natAbs (rounding (r .scale)) < 2 ^ 31
-    half-product stays t k h inside =
-        rw (tap-same k t inside h) (product-fits r (read .sane) m most t (readEntry r b source k t) stays h (read-within k t))
+    pub half-near : (t : ℕ) → t < r .count → Within extended (getD places t 0) b (sourceReach r reach)
+    half-near t h x inside =
+        rw (read .placed t (omega (arith, read .sane .few-taps)), read .ends (r .lead + t + x) (omega (arith, read .sane .near))) (read-within x t)
 
     -- The sums of the taps over it.
     module _
@@ -265,14 +262,6 @@ module _
         -- what a sum makes of entry k
         entry-same : (k : ℕ) → k < b → changed (r .adds) (r .scale) (getD target (4 + k) (pos 0)) (getD sums k (pos 0)) ≡ newEntry r b target source k
         entry-same k inside = rw (summed k inside, sum-same (tapAt (r .taps) places extended k) _ (r .count) (λ t h. tap-same k t inside h))
-
-        -- the new entries fit where the step stays small
-        pub half-fits :
-            staysSmall r m most ≡ true → (k : ℕ) → k < b
-            → fits32 (changed (r .adds) (r .scale) (getD target (4 + k) (pos 0)) (getD sums k (pos 0))) ≡ true
-        half-fits stays k inside =
-            rw (entry-same k inside)
-            (new-fits r (read .sane) m (readEntry r b source k) (λ t h. read-within k t) (getD target (4 + k) (pos 0)) most (read .targets k inside) stays)
 
         -- the half with the new entries, where they fit
         module _
@@ -291,24 +280,50 @@ module _
                 ∙ entry-same k inside
 
             -- they are within the bound that the step leaves
-            half-within : answer ≡ true → Within target' 4 b (targetAfter r m most)
+            half-within : answer ≡ true → Within target' 4 b (targetReach r (reachAfter r reach))
             half-within fits k inside =
-                rw (half-done fits k inside)
-                (after-size r (read .sane) m (readEntry r b source k) (λ t h. read-within k t) (getD target (4 + k) (pos 0)) most (read .targets k inside)
+                rw (half-done fits k inside, target-reach-after r reach)
+                (after-size r (read .sane) (sourceReach r reach) (readEntry r b source k) (λ t h. read-within k t) (getD target (4 + k) (pos 0)) (targetReach r reach) (read .targets k inside)
                 (all-at (λ k. fits32 (newEntry r b target source k)) b k (sym half-told ∙ fits) inside))
 
-            pub half-lifted : HalfLifted r b m most target source answer target' extended
+            pub half-lifted : HalfLifted r b reach target source answer target' extended
             half-lifted = (half-told, (half-done, (half-kept b source extended (read .ends), half-within)))
 
--- the reach of a row's halves after a step: the half that it changes is within the bound that it leaves, and the other is as it was
-pub reach-halves :
-    (r : LiftingStep) (b : ℕ) (even : Bool) → r .even ≡ even → (reach : Reach) (source target' source' : List ℤ)
-    → reachOf reach (not even) ≤ 2 ^ 32 → Within source 4 b (reachOf reach (not even))
-    → ((k : ℕ) → k < b → getD source' (4 + k) (pos 0) ≡ getD source (4 + k) (pos 0))
-    → Within target' 4 b (targetAfter r (reachOf reach (not even)) (reachOf reach even))
-    → HalvesReach b (reachAfter r reach) (cond even target' source') (cond even source' target')
+-- a row's halves, as those of the even and of the odd places, and as those that a step changes and reads
+halves-apart :
+    (even : Bool) (b : ℕ) (reach : Reach) (low high : List ℤ) → HalvesReach b reach low high
+    → Within (cond even low high) 4 b (reachOf reach even) × Within (cond even high low) 4 b (reachOf reach (not even))
 unfolding reachOf
-reach-halves r b true same reach source target' source' most sources kept targets =
-    rw (after-even r reach same) (omega (arith, after-most r (reach .odd) (reach .even)), most, targets, λ k h. rw (kept k h) (sources k h))
-reach-halves r b false same reach source target' source' most sources kept targets =
-    rw (after-odd r reach same) (most, omega (arith, after-most r (reach .even) (reach .odd)), λ k h. rw (kept k h) (sources k h), targets)
+halves-apart true b reach low high kept = (kept .2, kept .3)
+halves-apart false b reach low high kept = (kept .3, kept .2)
+
+halves-joined :
+    (even : Bool) (b : ℕ) (reach : Reach) (target source : List ℤ) → reach .even ≤ 2 ^ 32 → reach .odd ≤ 2 ^ 32
+    → Within target 4 b (reachOf reach even) → Within source 4 b (reachOf reach (not even))
+    → HalvesReach b reach (cond even target source) (cond even source target)
+unfolding reachOf
+halves-joined true b reach target source most-even most-odd targets sources = (most-even, most-odd, targets, sources)
+halves-joined false b reach target source most-even most-odd targets sources = (most-even, most-odd, sources, targets)
+
+-- before a step, and after it: the half that it reads is as it was
+module _ (r : LiftingStep) (b : ℕ) (even : Bool) (same : r .even ≡ even) (reach : Reach) where
+  pub halves-before :
+      (low high : List ℤ) → HalvesReach b reach low high
+      → Within (cond even low high) 4 b (targetReach r reach) × Within (cond even high low) 4 b (sourceReach r reach)
+  halves-before low high kept =
+      let halves = halves-apart even b reach low high kept in (
+        subst (λ (e : Bool). Within (cond even low high) 4 b (reachOf reach e)) (sym same) (halves .0),
+        subst (λ (e : Bool). Within (cond even high low) 4 b (reachOf reach (not e))) (sym same) (halves .1),
+      )
+
+  pub halves-after :
+      (source target' source' : List ℤ) → reach .even ≤ 2 ^ 32 → reach .odd ≤ 2 ^ 32
+      → Within source 4 b (sourceReach r reach) → ((k : ℕ) → k < b → getD source' (4 + k) (pos 0) ≡ getD source (4 + k) (pos 0))
+      → Within target' 4 b (targetReach r (reachAfter r reach))
+      → HalvesReach b (reachAfter r reach) (cond even target' source') (cond even source' target')
+  halves-after source target' source' most-even most-odd sources kept targets =
+      let most = reach-most r reach most-even most-odd in
+      let read : Within source' 4 b (sourceReach r (reachAfter r reach)) = λ k h. rw (kept k h, source-reach-after r reach) (sources k h) in
+      halves-joined even b (reachAfter r reach) target' source' (most .0) (most .1)
+      (subst (λ (e : Bool). Within target' 4 b (reachOf (reachAfter r reach) e)) same targets)
+      (subst (λ (e : Bool). Within source' 4 b (reachOf (reachAfter r reach) (not e))) same read)

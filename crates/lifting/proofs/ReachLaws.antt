@@ -1,15 +1,15 @@
 -- The growth law: how large a step's sums and its new numbers are, from the sizes of the numbers that it reads and changes. And that a pass of
 -- each of the seven filters over small numbers never leaves 32 bits.
 -- Assumes nothing.
-use mathlib.Core.Path.{_≡_, refl, sym, ap, _∙_}
-use mathlib.Core.Bool.{Bool, true, false, not, cond, _&&_}
+use mathlib.Core.Path.{_≡_, refl, ap, _∙_}
+use mathlib.Core.Bool.{Bool, true, false, cond, _&&_}
 use mathlib.Core.List.{List, [], _∷_, map}
 use Prim.Native.Nat.{ℕ, zero, suc, _+_, _*_, _/_, _^_, _≤_, _<_}
 use native.Mathlib.Nat.{le-refl, le-trans, mul-assoc, mul-add, suc-mul, mul-le-mul, mul-le-mul-left, mul-le-mul-right, le-of-mul-le-mul-left, le-div-iff-mul-le}
 use native.Mathlib.Omega.{arith}
-use borrow.Author.Tests.{ltb-true}
+use borrow.Author.Tests.{ltb-true, lt-ltb, le-ltb}
 use lib.Dec.{ltb}
-use lib.IntN.{ℤ, pos, negsuc, natAbs, _+ℤ_, _-ℤ_, _*ℤ_}
+use lib.IntN.{ℤ, pos, negsuc, natAbs, _+ℤ_, _*ℤ_}
 use lib.ListN.{length, getD}
 use lib.Pow.{pow-pos}
 use Rattle.base.specs.Floor.{floorDiv}
@@ -72,12 +72,9 @@ module _ (r : LiftingStep) (sane : Sane r) (m : ℕ) where
       let product = mul-le-mul-left (r .count) (size-mul-most tap v (natAbs tap) m (le-refl (natAbs tap)) h) in
       le-trans product (rw (← mul-assoc (r .count) (natAbs tap) m) (mul-le-mul-right m (sane .gain-covers t inside)))
 
-  -- the bound of a sum fits 64 bits, with room for more
-  pub sum-most-slight : m ≤ 2 ^ 32 → sumMost r m ≤ 2 ^ 47
-  unfolding sumMost
-  sum-most-slight h =
-      let product : r .gain * m ≤ 2 ^ 46 = mul-le-mul (sane .gain-most) h in
-      omega arith
+  -- a gain times a size fits 64 bits, with room for more
+  pub gain-slight : m ≤ 2 ^ 32 → r .gain * m ≤ 2 ^ 46
+  gain-slight h = mul-le-mul (sane .gain-most) h
 
   -- where the step stays small, that is within 32 bits, the rounding included
   pub product-fits :
@@ -159,6 +156,17 @@ after-most r source target =
     most-chosen (staysSmall r source target) (newMost r source target) (2 ^ 31) (2 ^ 31)
     (λ small. omega (arith, ltb-true (newMost r source target) (2 ^ 31) (and-right (ltb (sumMost r source) (2 ^ 31)) _ small)))
     (le-refl (2 ^ 31))
+
+-- where it is smaller, the step stays small
+chosen-below : (first : Bool) (a b : ℕ) → (first ≡ true → a < b) → ltb (cond first a b) b ≡ first
+chosen-below true a b h = lt-ltb a b (h refl)
+chosen-below false a b h = le-ltb b b (le-refl b)
+
+pub after-below : (r : LiftingStep) (source target : ℕ) → ltb (targetAfter r source target) (2 ^ 31) ≡ staysSmall r source target
+unfolding targetAfter staysSmall
+after-below r source target =
+    chosen-below (staysSmall r source target) (newMost r source target) (2 ^ 31)
+    (λ small. ltb-true (newMost r source target) (2 ^ 31) (and-right (ltb (sumMost r source) (2 ^ 31)) _ small))
 
 -- the reach after a step that changes the even places, and after one that changes the odd ones
 abbrev pub reachPair : ℕ → ℕ → Reach

@@ -12,7 +12,6 @@ use lib.Dec.{eqb}
 use lib.IntN.{ℤ, pos, negsuc, _+ℤ_, _-ℤ_, _*ℤ_, +ℤ-idr, +ℤ-assoc, +ℤ-comm, zero-*ℤ}
 use lib.ListN.{length, getD, take}
 use borrow.Author.Tests.{lt-ltb, le-ltb, eq-eqb}
-use Rattle.lines.proofs.SumLaws.{sum-same}
 use Rattle.lines.specs.Sums.{sumBelow, changed}
 use Rattle.lifting.specs.Lifting.{Line, changesEven, adds, clamp, readPlace, tapSum, rounding, update, changes, lift}
 use Rattle.lifting.specs.Table.{typeOf, stepOf}

@@ -3,7 +3,7 @@ ghost use mathlib.Core.Path.{_≡_};
 ghost use mathlib.Core.Bool.{true};
 ghost use mathlib.Core.List.{map};
 ghost use Prim.Native.Nat.{ℕ, suc, _+_, _*_, _^_, _≤_, _<_};
-ghost use lib.ListN.{length, getD};
+ghost use lib.ListN.{getD};
 ghost use Rattle.base.specs.Every.{allBelow};
 ghost use Rattle.base.specs.Fill.{fill};
 ghost use Rattle.base.specs.Range.{fits32};
@@ -21,7 +21,7 @@ use crate::filters::step_at;
 use crate::filters::step_count;
 use crate::reach::Reach;
 use crate::reach::reach_after;
-use crate::reach::step_stays_small;
+use crate::reach::stays_small;
 use lines::small::lift_small;
 use lines::small::sum_small;
 use lines::sums::lift_line;
@@ -110,7 +110,7 @@ fn lift_row(
     let taps = step.taps;
     let round = rounding_of(step.scale);
     let target = target_row(step.even, k) * frame.stride;
-    if step_stays_small(step, reach) {
+    if stays_small(step, reach) {
         sum_small(sums, work, width, &taps, &places, step.count, round);
         lift_small(work, target, sums, width, step.scale, step.adds);
         return true;

@@ -2,7 +2,7 @@
 ghost use mathlib.Core.Path.{_≡_};
 ghost use Prim.Native.Nat.{_≤_, _<_, _^_};
 ghost use Rattle.lifting.specs.Table.{Sane};
-ghost use Rattle.lifting.specs.Reach.{sumMost, newMost, staysSmall, targetAfter, sourceReach, targetReach, reachAfter};
+ghost use Rattle.lifting.specs.Reach.{staysSmall, targetAfter, sourceReach, targetReach, reachAfter};
 use crate::filters::LiftingStep;
 
 // How large the numbers at the even and at the odd places of a pass may be.
@@ -11,27 +11,15 @@ pub struct Reach {
     pub odd: u64,
 }
 
-// Whether a step's sums and its new numbers are within 32 bits: the numbers that it reads are at most `source` in size, those that it
-// changes `target`.
-pub fn stays_small(step: LiftingStep, source: u64, target: u64) -> bool
-    requires { ⌜ Sane step × (source ≤ 2 ^ 32) × (target ≤ 2 ^ 32) ⌝ }
-    ensures { λ r. ⌜ r ≡ staysSmall step source target ⌝ }
-{
-    if sum_most(step, source) >= 2147483648 {
-        return false;
-    }
-    new_most(step, source, target) < 2147483648
-}
-
-// The same of a step over numbers that keep to a reach.
-pub fn step_stays_small(step: LiftingStep, reach: Reach) -> bool
+// Whether a step over numbers that keep to a reach stays within 32 bits, its sums and its new numbers.
+pub fn stays_small(step: LiftingStep, reach: Reach) -> bool
     requires { ⌜ Sane step × (reach .even ≤ 2 ^ 32) × (reach .odd ≤ 2 ^ 32) ⌝ }
     ensures { λ r. ⌜ r ≡ staysSmall step (sourceReach step reach) (targetReach step reach) ⌝ }
 {
     if step.even {
-        return stays_small(step, reach.odd, reach.even);
+        return target_after(step, reach.odd, reach.even) < 2147483648;
     }
-    stays_small(step, reach.even, reach.odd)
+    target_after(step, reach.even, reach.odd) < 2147483648
 }
 
 // The reach after a step.
@@ -51,29 +39,16 @@ pub fn reach_after(step: LiftingStep, reach: Reach) -> Reach
     }
 }
 
-// How large the numbers that a step changes may be after it. Those that may leave 32 bits are tested, so none does.
+// How large the numbers that a step changes may be after it, from how large those that it reads and those that it changes may be before: 2^31
+// where they, or its sums, may leave 32 bits, since the new numbers are tested then.
 fn target_after(step: LiftingStep, source: u64, target: u64) -> u64
     requires { ⌜ Sane step × (source ≤ 2 ^ 32) × (target ≤ 2 ^ 32) ⌝ }
     ensures { λ r. ⌜ r ≡ targetAfter step source target ⌝ }
 {
-    if stays_small(step, source, target) {
-        return new_most(step, source, target);
+    let sum = step.gain * source + 2048;
+    let new = target + (sum >> step.scale) + 1;
+    if sum < 2147483648 && new < 2147483648 {
+        return new;
     }
     2147483648
-}
-
-// How large a step's sum may be.
-fn sum_most(step: LiftingStep, source: u64) -> u64
-    requires { ⌜ Sane step × (source ≤ 2 ^ 32) ⌝ }
-    ensures { λ r. ⌜ r ≡ sumMost step source ⌝ }
-{
-    step.gain * source + 2048
-}
-
-// How large a new number may be.
-fn new_most(step: LiftingStep, source: u64, target: u64) -> u64
-    requires { ⌜ Sane step × (source ≤ 2 ^ 32) × (target ≤ 2 ^ 32) ⌝ }
-    ensures { λ r. ⌜ r ≡ newMost step source target ⌝ }
-{
-    target + (sum_most(step, source) >> step.scale) + 1
 }

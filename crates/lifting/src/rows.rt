@@ -17,7 +17,7 @@ ghost use Rattle.lifting.specs.Passes.{rows, run, runAll, newFit, allNew
 ghost use Rattle.lifting.specs.Planes.{pictureOf};
 ghost use Rattle.lifting.specs.Table.{stepOf, Sane};
 ghost use Rattle.lifting.specs.Layout.{Agree, Placed, halfPlace, halvesOf};
-ghost use Rattle.lifting.specs.Reach.{HalvesReach, targetAfter, reachAfter};
+ghost use Rattle.lifting.specs.Reach.{sourceReach, targetReach, reachAfter, HalvesReach};
 use crate::columns::Frame;
 use crate::filters::LiftingStep;
 use crate::filters::has_shift;
@@ -135,9 +135,9 @@ fn lift_halves(
     ensures bounded { λ r. ⌜ (r ≡ true → HalvesReach half (reachAfter step reach) (now (low .exit)) (now (high .exit))) ⌝ }
 {
     if step.even {
-        lift_half(low, high, sums, half, step, reach.even, reach.odd)
+        lift_half(low, high, sums, half, step, reach)
     } else {
-        lift_half(high, low, sums, half, step, reach.odd, reach.even)
+        lift_half(high, low, sums, half, step, reach)
     }
 }
 
@@ -148,21 +148,20 @@ fn lift_half(
     sums: &mut [i32; 4096],
     half: usize,
     step: LiftingStep,
-    target_most: u64,
-    source_most: u64,
+    reach: Reach,
 ) -> bool
     requires { ⌜ (1 ≤ half) × (half ≤ 2048) × Sane step ⌝ }
-    requires { ⌜ («target_most» ≤ 2 ^ 32) × («source_most» ≤ 2 ^ 32) × Within (now target) 4 half «target_most» × Within (now source) 4 half «source_most» ⌝ }
+    requires { ⌜ (reach .even ≤ 2 ^ 32) × (reach .odd ≤ 2 ^ 32) × Within (now target) 4 half (targetReach step reach) × Within (now source) 4 half (sourceReach step reach) ⌝ }
     ensures told { λ r. ⌜ r ≡ allBelow half (λ k. fits32 (changed (step .adds) (step .scale) (getD (now (target .entry)) (4 + k) (pos 0)) (rounding (step .scale) +ℤ sumBelow (λ t. getD (step .taps) t (pos 0) *ℤ getD (now (source .entry)) (heldEntry half (step .lead + t + k)) (pos 0)) (step .count)))) ⌝ }
     ensures done { λ r. ⌜ (r ≡ true → (k : ℕ) → k < half → getD (now (target .exit)) (4 + k) (pos 0) ≡ changed (step .adds) (step .scale) (getD (now (target .entry)) (4 + k) (pos 0)) (rounding (step .scale) +ℤ sumBelow (λ t. getD (step .taps) t (pos 0) *ℤ getD (now (source .entry)) (heldEntry half (step .lead + t + k)) (pos 0)) (step .count))) ⌝ }
     ensures kept { λ _. ⌜ ((k : ℕ) → k < half → getD (now (source .exit)) (4 + k) (pos 0) ≡ getD (now (source .entry)) (4 + k) (pos 0)) ⌝ }
-    ensures bounded { λ r. ⌜ (r ≡ true → Within (now (target .exit)) 4 half (targetAfter step «source_most» «target_most»)) ⌝ }
+    ensures bounded { λ r. ⌜ (r ≡ true → Within (now (target .exit)) 4 half (targetReach step (reachAfter step reach))) ⌝ }
 {
     extend(source, half);
     let places = line_places(step.lead);
     let taps = step.taps;
     let round = rounding_of(step.scale);
-    if stays_small(step, source_most, target_most) {
+    if stays_small(step, reach) {
         sum_small(sums, source, half, &taps, &places, step.count, round);
         lift_small(target, 4, sums, half, step.scale, step.adds);
         return true;

@@ -67,8 +67,8 @@ near : (c : tie.After-target-row) → let start = c .before .before .before .bef
     → Within (start .args .work .now) (getD (c .before .before .before .row-places .result) t 0) (2 * start .args .frame .«band_columns») (sourceReach (start .args .step) (start .args .reach))
 near c t h = rw (c .before .before .before .row-places .ensures t (omega arith)) (c .before .before .before .before .before .before .pre .1 .0 _)
 
-step-stays-small-requires : tie.Need-step-stays-small-requires
-step-stays-small-requires c κs = search needs
+stays-small-requires : tie.Need-stays-small-requires
+stays-small-requires c κs = search needs
 
 mul-target : tie.Need-mul-target
 mul-target c = omega (arith, room (c .before))
@@ -76,7 +76,7 @@ mul-target c = omega (arith, room (c .before))
 -- where the step stays small, so do the sums and the new numbers
 small : (c : tie.Then1) → let start = c .before .before .before .before .before .before .before .before .before in
     staysSmall (start .args .step) (sourceReach (start .args .step) (start .args .reach)) (targetReach (start .args .step) (start .args .reach)) ≡ true
-small c = sym (c .before .step-stays-small .ensures) ∙ c .if1 .taken
+small c = sym (c .before .stays-small .ensures) ∙ c .if1 .taken
 
 sum-small-requires : tie.Need-sum-small-requires
 sum-small-requires c κs =
@@ -153,7 +153,7 @@ lift-row-spec =
     rounding-of-requires
     target-row-requires
     mul-target
-    step-stays-small-requires
+    stays-small-requires
     sum-small-requires
     lift-small-requires
     same-length

@@ -1,25 +1,35 @@
--- `lifting::reach::stays_small` meets its contract: it makes the two tests one after the other.
+-- `lifting::reach::stays_small` meets its contract: a step reads the places that it does not change, and where it does not stay small the size
+-- after it is the bound itself.
 -- Assumes nothing.
+use mathlib.Core.Path.{sym, ap, _∙_}
+use mathlib.Core.Bool.{Bool, not}
 use borrow.Author.Needs.{needs}
-use borrow.Author.Tests.{lt-ltb, le-ltb}
-use Rattle.lifting.specs.Reach.{staysSmall}
+use Rattle.lifting.specs.Reach.{staysSmall, reachOf}
+use Rattle.lifting.proofs.ReachLaws.{after-below}
 use Rattle.lifting.proofs.reach.stays_small.Statement.{statement}
 use Rattle.lifting.proofs.reach.stays_small.Tie as tie
 
-sum-most-requires : tie.Need-sum-most-requires
-sum-most-requires c κs = search needs
+target-after-requires : tie.Need-target-after-requires
+target-after-requires c κs = search needs
 
 returns : tie.Need-returns
-unfolding staysSmall
-returns c = rw (← c .before .sum-most .ensures, le-ltb (c .before .sum-most .result) 2147483648 (c .if1 .taken))
+unfolding reachOf
+returns c =
+    let args = c .before .before .args in
+    rw (c .target-after .ensures)
+    (after-below (args .step) (args .reach .odd) (args .reach .even)
+    ∙ ap (λ (even : Bool). staysSmall (args .step) (reachOf (args .reach) (not even)) (reachOf (args .reach) even)) (sym (c .before .if1 .taken)))
 
-new-most-requires : tie.Need-new-most-requires
-new-most-requires c κs = search needs
+target-after-requires-2 : tie.Need-target-after-requires-2
+target-after-requires-2 c κs = search needs
 
 returns-2 : tie.Need-returns-2
-unfolding staysSmall
+unfolding reachOf
 returns-2 c =
-    rw (← c .before .before .sum-most .ensures, ← c .new-most .ensures, lt-ltb (c .before .before .sum-most .result) 2147483648 (c .before .if1 .left))
+    let args = c .before .before .args in
+    rw (c .target-after2 .ensures)
+    (after-below (args .step) (args .reach .even) (args .reach .odd)
+    ∙ ap (λ (even : Bool). staysSmall (args .step) (reachOf (args .reach) (not even)) (reachOf (args .reach) even)) (sym (c .before .if1 .left)))
 
 pub stays-small-spec : {M : Type 1} → statement M
-stays-small-spec = tie.close (tie.spec sum-most-requires returns new-most-requires returns-2)
+stays-small-spec = tie.close (tie.spec target-after-requires returns target-after-requires-2 returns-2)

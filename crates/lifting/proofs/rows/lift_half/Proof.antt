@@ -17,9 +17,10 @@ use Rattle.base.specs.Range.{fits32}
 use Rattle.base.proofs.Everys.{all-from}
 use Rattle.lines.specs.Sums.{sumBelow, tapAt, changed}
 use Rattle.lifting.specs.Lifting.{rounding}
-use Rattle.lifting.specs.Reach.{staysSmall}
+use Rattle.lifting.specs.Reach.{staysSmall, sourceReach, targetReach}
 use Rattle.lifting.proofs.TableLaws.{rounding-small, rounding-slight, rounding-back}
-use Rattle.lifting.proofs.HalfLaws.{HalfRead, HalfLifted, half-product, half-fits, half-lifted}
+use Rattle.lifting.proofs.HalfLaws.{HalfRead, HalfLifted, half-near, half-lifted}
+use Rattle.lifting.proofs.ReachLaws.{products-fit, line-fits}
 use Rattle.lifting.proofs.rows.lift_half.Statement.{statement}
 use Rattle.lifting.proofs.rows.lift_half.Tie as tie
 
@@ -45,7 +46,7 @@ round c =
 ready :
     (c : tie.After-rounding-of)
     → let args = c .before .before .before .before .before .args in
-    HalfRead (args .step) (args .half) (args .source-most) (args .target-most) (args .target .now) (args .source .now) (c .before .before .before .extend .last .0) (c .before .before .line-places .result)
+    HalfRead (args .step) (args .half) (args .reach) (args .target .now) (args .source .now) (c .before .before .before .extend .last .0) (c .before .before .line-places .result)
 ready c =
     let start = c .before .before .before .before .before in
     record {
@@ -77,15 +78,20 @@ lifted :
     4 + args .half ≤ length (args .target .now)
     → answer ≡ allBelow (args .half) (λ k. fits32 (new c sums k))
     → (answer ≡ true → target' ≡ fill (args .target .now) 4 (args .half) (new c sums))
-    → HalfLifted (args .step) (args .half) (args .source-most) (args .target-most) (args .target .now) (args .source .now) answer target' (c .before .before .before .extend .last .0)
+    → HalfLifted (args .step) (args .half) (args .reach) (args .target .now) (args .source .now) answer target' (c .before .before .before .extend .last .0)
 lifted c sums summed = half-lifted (ready c) sums (λ x h. summed x h ∙ rw (round c))
 
 -- where the step stays small, each new entry fits
-small : (c : tie.Then1) → let args = c .before .before .before .before .before .before .before .args in staysSmall (args .step) (args .source-most) (args .target-most) ≡ true
+small : (c : tie.Then1) → let args = c .before .before .before .before .before .before .before .args in staysSmall (args .step) (sourceReach (args .step) (args .reach)) (targetReach (args .step) (args .reach)) ≡ true
 small c = sym (c .before .stays-small .ensures) ∙ c .if1 .taken
 
 fits : (c : tie.Then1) (sums : List ℤ) → Summed (c .before .before) sums → (k : ℕ) → k < c .before .before .before .before .before .before .before .args .half → fits32 (new (c .before .before) sums k) ≡ true
-fits c sums summed = half-fits (ready (c .before .before)) sums (λ x h. summed x h ∙ rw (round (c .before .before))) (small c)
+fits c sums summed =
+    let rounded = c .before .before in
+    let known = ready rounded in
+    let args = rounded .before .before .before .before .before .args in
+    line-fits (args .step) (known .sane) _ _ _ (sourceReach (args .step) (args .reach)) (targetReach (args .step) (args .reach)) (half-near known) (small c) _ (round rounded)
+    (args .target .now) sums 4 summed (known .targets)
 
 sum-small-requires : tie.Need-sum-small-requires
 sum-small-requires c κs =
@@ -99,7 +105,7 @@ sum-small-requires c κs =
           omega (arith, sane .small-taps t (omega (arith, sane .few-taps))),
           rw (rounded .before .before .line-places .ensures t (omega arith)) (omega arith),
         ),
-        λ t x h inside. rw (round rounded) (half-product (ready rounded) (small (c .before .before .before .before .before)) t x h inside),
+        products-fit (start .args .step) sane _ _ _ (sourceReach (start .args .step) (start .args .reach)) (targetReach (start .args .step) (start .args .reach)) (half-near (ready rounded)) (small (c .before .before .before .before .before)) _ (round rounded),
       ),
     )
 

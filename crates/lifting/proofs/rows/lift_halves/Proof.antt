@@ -3,21 +3,25 @@
 use mathlib.Core.Path.{sym, _∙_}
 use mathlib.Core.Bool.{true, false}
 use Rattle.lifting.specs.Reach.{reachOf}
-use Rattle.lifting.proofs.HalfLaws.{halves-new, halves-lifted, reach-halves}
+use Rattle.lifting.proofs.HalfLaws.{halves-new, halves-lifted, halves-before, halves-after}
 use Rattle.lifting.proofs.rows.lift_halves.Statement.{statement}
 use Rattle.lifting.proofs.rows.lift_halves.Tie as tie
 
 lift-half-requires : tie.Need-lift-half-requires
 lift-half-requires c κs =
     let start = c .before .before .before .before in
+    let args = start .args in
     let reach = start .pre .1 in
-    (start .pre .0, (reach .0, reach .1, reach .2, reach .3))
+    let halves = halves-before (args .step) (args .half) true (c .before .before .before .if1 .taken) (args .reach) (args .low .now) (args .high .now) reach in
+    (start .pre .0, (reach .0, reach .1, halves .0, halves .1))
 
 lift-half-requires-2 : tie.Need-lift-half-requires-2
 lift-half-requires-2 c κs =
     let start = c .before .before .before .before in
+    let args = start .args in
     let reach = start .pre .1 in
-    (start .pre .0, (reach .1, reach .0, reach .3, reach .2))
+    let halves = halves-before (args .step) (args .half) false (c .before .before .before .if1 .left) (args .reach) (args .low .now) (args .high .now) reach in
+    (start .pre .0, (reach .0, reach .1, halves .0, halves .1))
 
 returns : tie.Need-returns
 unfolding reachOf
@@ -25,11 +29,13 @@ returns c =
     let even = c .before .before .before .before .if1 .taken in
     let start = c .before .before .before .before .before in
     let args = start .args in
+    let reach = start .pre .1 in
+    let halves = halves-before (args .step) (args .half) true even (args .reach) (args .low .now) (args .high .now) reach in
     let lifted = c .lift-half .ensures in (
       lifted .0 ∙ sym (halves-new (args .step) (args .half) (args .low .now) (args .high .now) true even),
       (
         λ fits. halves-lifted (args .step) (args .half) (args .low .now) (args .high .now) true even _ _ (lifted .1 .0 fits) (lifted .1 .1 .0),
-        λ fits. reach-halves (args .step) (args .half) true even (args .reach) (args .high .now) (c .lift-half .last .0) (c .lift-half .last .1 .0) (start .pre .1 .1) (start .pre .1 .3) (lifted .1 .1 .0) (lifted .1 .1 .1 fits),
+        λ fits. halves-after (args .step) (args .half) true even (args .reach) (args .high .now) (c .lift-half .last .0) (c .lift-half .last .1 .0) (reach .0) (reach .1) (halves .1) (lifted .1 .1 .0) (lifted .1 .1 .1 fits),
       ),
     )
 
@@ -39,11 +45,13 @@ returns-2 c =
     let odd = c .before .before .before .before .if1 .left in
     let start = c .before .before .before .before .before in
     let args = start .args in
+    let reach = start .pre .1 in
+    let halves = halves-before (args .step) (args .half) false odd (args .reach) (args .low .now) (args .high .now) reach in
     let lifted = c .lift-half2 .ensures in (
       lifted .0 ∙ sym (halves-new (args .step) (args .half) (args .high .now) (args .low .now) false odd),
       (
         λ fits. halves-lifted (args .step) (args .half) (args .high .now) (args .low .now) false odd _ _ (lifted .1 .0 fits) (lifted .1 .1 .0),
-        λ fits. reach-halves (args .step) (args .half) false odd (args .reach) (args .low .now) (c .lift-half2 .last .0) (c .lift-half2 .last .1 .0) (start .pre .1 .0) (start .pre .1 .2) (lifted .1 .1 .0) (lifted .1 .1 .1 fits),
+        λ fits. halves-after (args .step) (args .half) false odd (args .reach) (args .low .now) (c .lift-half2 .last .0) (c .lift-half2 .last .1 .0) (reach .0) (reach .1) (halves .1) (lifted .1 .1 .0) (lifted .1 .1 .1 fits),
       ),
     )
 
