@@ -192,14 +192,15 @@ fn check_libavcodec(material: &Material, samples: &[i32]) -> Result<(), String> 
 }
 
 /// How fast everyone is on a component that was checked. Planes are allocated once and not cleared
-/// between turns.
+/// between turns. The library and libavcodec decode it thrice in a turn, as the components of a picture.
 pub fn measure(material: &Material, effort: Effort) -> Speeds {
     let mut contestants = Vec::new();
-    contestants.extend(job_contestants(material, PROVED, effort.rounds));
+    contestants.extend(job_contestants(material, PROVED, COMPONENTS, effort.rounds));
     if effort.reference_rounds > 0 {
         contestants.extend(job_contestants(
             material,
             REFERENCE,
+            1,
             effort.reference_rounds,
         ));
     }
@@ -227,18 +228,28 @@ pub fn measure(material: &Material, effort: Effort) -> Speeds {
     }
 }
 
-/// Each of a decoder's jobs with planes of its own, the coefficients unpacked.
-fn job_contestants(material: &Material, jobs: [Job; 3], rounds: usize) -> [Contestant<'_>; 3] {
+/// Each of a decoder's jobs with planes of its own, the coefficients unpacked. A turn is a picture of so
+/// many components, one after the other: each has its own samples, and all use the other two planes.
+fn job_contestants(
+    material: &Material,
+    jobs: [Job; 3],
+    components: usize,
+    rounds: usize,
+) -> [Contestant<'_>; 3] {
     let [unpack, ..] = jobs;
     jobs.map(|job| {
         let mut planes = Planes::new(material);
         unpack(material, &mut planes);
-        Contestant::new(material.samples(), rounds, move || {
-            assert_eq!(
-                job(material, &mut planes),
-                0,
-                "a component that was checked"
-            );
+        let mut samples = vec![planes.samples.clone(); components];
+        Contestant::new(components * material.samples(), rounds, move || {
+            for own in &mut samples {
+                std::mem::swap(&mut planes.samples, own);
+                assert_eq!(
+                    job(material, &mut planes),
+                    0,
+                    "a component that was checked"
+                );
+            }
         })
     })
 }
