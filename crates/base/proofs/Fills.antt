@@ -10,7 +10,7 @@ use native.Mathlib.Decide.{decLt}
 use native.Mathlib.Omega.{arith}
 use lib.IntN.{ℤ, pos}
 use lib.ListN.{length, getD, set, replicate, length-set, length-replicate, getD-replicate}
-use lib.Seq.{ext-getD, getD-set-same, getD-set-other, set-comm}
+use lib.Seq.{ext-getD, getD-set-same, getD-set-other, set-set, set-comm}
 use Rattle.base.specs.Fill.{fill, tabulate, zerosLike}
 
 module _ {ℓ} {A : Type ℓ} (l : List A) (d : ℕ) (f : ℕ → A) where
@@ -65,6 +65,15 @@ pub fill-same {ℓ} : {A : Type ℓ} (l : List A) (d : ℕ) (f g : ℕ → A) (n
 unfolding fill
 fill-same l d f g zero same = refl
 fill-same l d f g (suc n) same = rw (fill-same l d f g n (λ k h. same k (omega arith)), same n (omega arith))
+
+-- stores to the same places before do not show
+pub fill-over {ℓ} : {A : Type ℓ} (l : List A) (d : ℕ) (f g : ℕ → A) (n : ℕ) → fill (fill l d n f) d n g ≡ fill l d n g
+unfolding fill
+fill-over l d f g zero = refl
+fill-over {A} l d f g (suc n) =
+    ap (λ (m : List A). set m (d + n) (g n)) (sym (set-fill-out (fill l d n f) d g n (d + n) (f n) (λ k h. omega arith)))
+    ∙ set-set (fill (fill l d n f) d n g) (d + n) (f n) (g n)
+    ∙ ap (λ (m : List A). set m (d + n) (g n)) (fill-over l d f g n)
 
 -- a plane filled with zeros from its start to its end
 pub fill-zeros : (l : List ℤ) → fill l 0 (length l) (λ k. pos 0) ≡ zerosLike l

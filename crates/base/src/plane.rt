@@ -16,6 +16,18 @@ pub fn zero(plane: &mut [i32])
     }
 }
 
+// Puts n zeros into the plane, from a place on.
+pub fn zero_part(plane: &mut [i32], place: usize, n: usize)
+    requires { ⌜ place + n ≤ length (now plane) ⌝ }
+    ensures { λ _. ⌜ now (plane .exit) ≡ fill (now (plane .entry)) place n (λ x. pos 0) ⌝ }
+{
+    let mut x = 0;
+    while x < n {
+        plane[place + x] = 0;
+        x += 1;
+    }
+}
+
 // Copies n entries from a place of one plane to a place of another.
 pub fn copy(plane: &mut [i32], place: usize, source: &[i32], from: usize, n: usize)
     requires { ⌜ (place + n ≤ length (now plane)) × (from + n ≤ length (now source)) ⌝ }

@@ -14,7 +14,7 @@ use Rattle.base.specs.Fill.{fill}
 use Rattle.base.specs.Range.{fits32}
 use Rattle.base.proofs.Everys.{all-same}
 use Rattle.base.proofs.Fills.{fill-same, getD-fill-in, getD-fill-out}
-use Rattle.base.proofs.Grids.{rows-apart}
+use Rattle.base.proofs.Grids.{row-room, rows-apart}
 use Rattle.lines.specs.Buffers.{Within}
 use Rattle.lines.specs.Sums.{sumBelow, tapAt, changed}
 use Rattle.lifting.specs.Lifting.{rounding, lift}
@@ -50,6 +50,13 @@ placed-same f plane₁ plane₂ placed same =
       apart = placed .apart;
       inside = rw same (placed .inside);
     }
+
+-- and each of its rows does
+pub row-inside :
+    (f : Frame) (plane₁ plane₂ : List ℤ) → Placed f plane₁ → length plane₂ ≡ length plane₁
+    → (row : ℕ) → row < 2 * f .«band_rows» → row * f .stride + 2 * f .«band_columns» ≤ length plane₂
+row-inside f plane₁ plane₂ placed same row below =
+    omega (arith, row-room (f .stride) row (2 * f .«band_rows») below, placed .apart, placed .inside)
 
 -- a picture whose rows are all within a bound keeps to the reach of that bound
 both-reach : (reach : Reach) (even : Bool) (m : ℕ) → m ≤ reach .even → m ≤ reach .odd → m ≤ reachOf reach even

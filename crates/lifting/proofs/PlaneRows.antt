@@ -1,10 +1,9 @@
 -- The rows of a picture in a plane, lifted and woven one after the other.
 -- Assumes nothing.
-use mathlib.Core.Path.{_≡_, refl, sym, ap, _∙_}
-use mathlib.Core.Logic.{_≢_}
+use mathlib.Core.Path.{_≡_, refl, sym, ap, _∙_, subst}
 use mathlib.Core.Bool.{Bool, true, false}
 use mathlib.Core.List.{List, map}
-use Prim.Native.Nat.{ℕ, _+_, _*_, _≤_, _<_}
+use Prim.Native.Nat.{ℕ, _+_, _*_, _≤_, _<_, min}
 use native.Mathlib.Decide.{decLt}
 use native.Mathlib.Omega.{arith}
 use lib.IntN.{ℤ, pos}
@@ -13,13 +12,14 @@ use Rattle.base.specs.Every.{allBelow}
 use Rattle.base.specs.Fill.{fill}
 use Rattle.base.specs.Range.{fits32}
 use Rattle.base.proofs.Everys.{all-none, all-more, all-not, and-true}
-use Rattle.base.proofs.Fills.{fill-same}
+use Rattle.base.proofs.Fills.{fill-none, fill-same, fill-over, getD-fill-in}
+use Rattle.base.proofs.Grids.{row-room, rows-stored}
 use Rattle.lines.specs.Buffers.{woven, shifted}
 use Rattle.lifting.specs.Lifting.{Line, Step}
 use Rattle.lifting.specs.Passes.{Picture, rows, runAll, allNewFit}
 use Rattle.lifting.specs.Planes.{pictureOf}
 use Rattle.lifting.specs.Layout.{Agree, halfPlace, halvesOf}
-use Rattle.lifting.proofs.Frames.{filled-row, other-row}
+use Rattle.lifting.proofs.Frames.{other-row}
 use Rattle.lifting.proofs.PairLaws.{twice-length}
 use Rattle.lifting.proofs.RowLaws.{rows-run, rows-run-same, rows-fit-same, rows-new-all}
 use Rattle.lifting.proofs.HalfLaws.{half-inside}
@@ -53,42 +53,67 @@ module _
         pub row-woven : fill work place (2 * half) (λ x. shifted asked (woven low' high' x)) ≡ fill work place (2 * half) (wovenRow steps shift half place work)
         row-woven = fill-same work place _ (wovenRow steps shift half place work) (2 * half) row-entry
 
--- The plane `work` when the rows above `row` are done, each from what stood in the plane `came`, and the others stand as they stood.
-pub record RowsDone (steps : List Step) (shift : Bool) (half stride : ℕ) (came work : List ℤ) (row : ℕ) : Type 0 where
-  pub done : (r x : ℕ) → r < row → x < 2 * half → getD work (r * stride + x) (pos 0) ≡ wovenRow steps shift half (r * stride) came x
+-- A part of a plane that was filled: copied to another plane, and filled again.
+module _ (work work' : List ℤ) (place n : ℕ) (f : ℕ → ℤ) (filled : work' ≡ fill work place n f) where
+  pub part-copied :
+      (plane plane' : List ℤ) (to count : ℕ) → count ≤ n → place + n ≤ length work
+      → plane' ≡ fill plane to count (λ x. getD work' (place + x) (pos 0)) → plane' ≡ fill plane to count f
+  part-copied plane plane' to count part inside new =
+      new ∙ fill-same plane to _ f count (λ x h. rw filled (getD-fill-in work place f n x (pos 0) (omega arith) (omega arith)))
+
+  pub part-again : (work'' : List ℤ) (g : ℕ → ℤ) → work'' ≡ fill work' place n g → work'' ≡ fill work place n g
+  part-again work'' g new = new ∙ rw filled (fill-over work place f g n)
+
+-- A row of a picture of n columns, cropped to a height: the count of its numbers, and their room in a plane.
+pub crop-room :
+    (row height n count room : ℕ) → height * n ≤ room → (row < height → count ≡ n) → (height ≤ row → count ≡ 0)
+    → (count ≤ n) × (row * count + count ≤ room)
+crop-room row height n count room inside counted none =
+    elim (decLt row height) [
+      | yes less ↦ rw (counted less) (omega arith, omega (arith, row-room n row height less))
+      | no notLess ↦ rw (none (omega arith)) (omega arith, omega arith)
+    ]
+
+-- The rows above `row` in a plane of rows `pitch` apart: their first n numbers are what the steps make of the rows of the plane `came`.
+abbrev pub RowsDone : List Step → Bool → ℕ → ℕ → List ℤ → ℕ → ℕ → List ℤ → ℕ → Type 0
+RowsDone steps shift half stride came pitch n plane row =
+    (r x : ℕ) → r < row → x < n → getD plane (r * pitch + x) (pos 0) ≡ wovenRow steps shift half (r * stride) came x
+
+-- The plane `work` when the steps are done on the rows above `row` of the plane `came`: their numbers fit, and the other rows stand as they stood.
+pub record RowsMet (steps : List Step) (shift : Bool) (half stride : ℕ) (came work : List ℤ) (row : ℕ) : Type 0 where
   pub left : (r x : ℕ) → row ≤ r → x < 2 * half → getD work (r * stride + x) (pos 0) ≡ getD came (r * stride + x) (pos 0)
   pub small : (r x : ℕ) → r < row → x < 2 * half → fits32 (wovenRow steps shift half (r * stride) came x) ≡ true
   pub fit : allBelow row (λ r. allNewFit 1 (2 * half) (map rows steps) (halfRow half (r * stride) came)) ≡ true
 
 module _ (steps : List Step) (shift : Bool) (half stride : ℕ) (some : 1 ≤ half) (room : 2 * half ≤ stride) (came : List ℤ) where
-  -- no row done
-  pub rows-none : RowsDone steps shift half stride came came 0
-  rows-none = record { done = λ r x h. absurd (omega arith); left = λ r x h inside. refl; small = λ r x h. absurd (omega arith); fit = all-none _ }
+  -- no row met
+  pub rows-none : RowsMet steps shift half stride came came 0
+  rows-none = record { left = λ r x h inside. refl; small = λ r x h. absurd (omega arith); fit = all-none _ }
 
-  -- at the end: the picture, and whether all new numbers fit
+  -- at the end: whether all new numbers fit, and that the picture's do
   pub rows-told :
-      (height : ℕ) (work : List ℤ) → RowsDone steps shift half stride came work height
+      (height : ℕ) (work : List ℤ) → RowsMet steps shift half stride came work height
       → allNewFit height (2 * half) (map rows steps) (halvesOf half stride came) ≡ true
   unfolding halvesOf
   rows-told height work all = rows-new-all (2 * half) height steps (halvesOf half stride came) ∙ all .fit
 
-  pub rows-done :
-      (height : ℕ) (work : List ℤ) → RowsDone steps shift half stride came work height
-      → Agree height (2 * half) (pictureOf stride work) (λ row x. shifted shift (runAll height (2 * half) (map rows steps) (halvesOf half stride came) row x))
-  unfolding halvesOf pictureOf
-  rows-done height work all row x r inside =
-      all .done row x r inside ∙ ap (shifted shift) (sym (rows-run (2 * half) height steps (halvesOf half stride came) row x))
-
-  -- whose numbers fit
   pub rows-small :
-      (height : ℕ) (work : List ℤ) → RowsDone steps shift half stride came work height
+      (height : ℕ) (work : List ℤ) → RowsMet steps shift half stride came work height
       → (row x : ℕ) → row < height → x < 2 * half → fits32 (shifted shift (runAll height (2 * half) (map rows steps) (halvesOf half stride came) row x)) ≡ true
   unfolding halvesOf
   rows-small height work all row x r inside =
       rw (rows-run (2 * half) height steps (halvesOf half stride came) row x) (all .small row x r inside)
 
+  -- the part of the picture that stands in a plane
+  pub rows-done :
+      (height pitch h n : ℕ) (plane : List ℤ) → RowsDone steps shift half stride came pitch n plane h
+      → Agree h n (pictureOf pitch plane) (λ row x. shifted shift (runAll height (2 * half) (map rows steps) (halvesOf half stride came) row x))
+  unfolding halvesOf pictureOf
+  rows-done height pitch h n plane all row x r inside =
+      all row x r inside ∙ ap (shifted shift) (sym (rows-run (2 * half) height steps (halvesOf half stride came) row x))
+
   -- The next row, on its own.
-  module _ (work : List ℤ) (row : ℕ) (above : RowsDone steps shift half stride came work row) where
+  module _ (work : List ℤ) (row : ℕ) (above : RowsMet steps shift half stride came work row) where
     -- it stands as it stood
     row-stood : Agree 1 (2 * half) (halfRow half (row * stride) work) (halfRow half (row * stride) came)
     row-stood r x one inside = above .left row (halfPlace half x) (omega arith) (half-inside half x inside)
@@ -105,49 +130,53 @@ module _ (steps : List Step) (shift : Bool) (half stride : ℕ) (some : 1 ≤ ha
     rows-fail height below out =
         rows-new-all (2 * half) height steps (halvesOf half stride came) ∙ all-not _ height row below (sym row-fits ∙ out)
 
-    -- where they do, the row is done
-    module _
-        (work' : List ℤ) (inside : row * stride + 2 * half ≤ length work)
-        (new : work' ≡ fill work (row * stride) (2 * half) (wovenRow steps shift half (row * stride) work))
-      where
-        -- what becomes of it is what becomes of the row that stood there
-        row-same : (x : ℕ) → x < 2 * half → wovenRow steps shift half (row * stride) work x ≡ wovenRow steps shift half (row * stride) came x
-        row-same x below =
-            ap (shifted shift) (rows-run-same 1 (2 * half) (twice-length half some) steps (halfRow half (row * stride) work) (halfRow half (row * stride) came) row-stood 0 x (omega arith) below)
+    -- what becomes of it is what becomes of the row that stood there
+    row-same : (x : ℕ) → x < 2 * half → wovenRow steps shift half (row * stride) work x ≡ wovenRow steps shift half (row * stride) came x
+    row-same x below =
+        ap (shifted shift) (rows-run-same 1 (2 * half) (twice-length half some) steps (halfRow half (row * stride) work) (halfRow half (row * stride) came) row-stood 0 x (omega arith) below)
 
-        -- a row that is not this one is kept
-        row-kept : (r x : ℕ) → r ≢ row → x < 2 * half → getD work' (r * stride + x) (pos 0) ≡ getD work (r * stride + x) (pos 0)
-        unfolding pictureOf
-        row-kept r x other below = rw new (other-row stride work row (2 * half) (wovenRow steps shift half (row * stride) work) room r x other below)
+    -- where they do, the row is met, whatever is stored in its place
+    pub rows-more :
+        (work' : List ℤ) (f : ℕ → ℤ) → work' ≡ fill work (row * stride) (2 * half) f
+        → allNewFit 1 (2 * half) (map rows steps) (halfRow half (row * stride) work) ≡ true
+        → ((x : ℕ) → x < 2 * half → fits32 (wovenRow steps shift half (row * stride) work x) ≡ true)
+        → RowsMet steps shift half stride came work' (row + 1)
+    unfolding pictureOf
+    rows-more work' f new fits new-small =
+        record {
+          left = λ r x h below. rw new (other-row stride work row (2 * half) f room r x (omega arith) below) ∙ above .left r x (omega arith) below;
+          small =
+              λ r x h below.
+              elim (decLt r row) [
+                | yes earlier ↦ above .small r x earlier below
+                | no notEarlier ↦
+                    let this : r ≡ row = omega arith in
+                    rw (this, ← row-same x below) (new-small x below)
+              ];
+          fit = all-more _ row ∙ and-true _ _ (above .fit) (sym row-fits ∙ fits);
+        }
 
-        -- this one is done
-        row-done : (x : ℕ) → x < 2 * half → getD work' (row * stride + x) (pos 0) ≡ wovenRow steps shift half (row * stride) came x
-        unfolding pictureOf
-        row-done x below =
-            rw new (filled-row stride work row (2 * half) (wovenRow steps shift half (row * stride) work) room inside x below) ∙ row-same x below
+    -- stored in a plane, it stands there below the others
+    pub rows-put :
+        (pitch n : ℕ) (plane plane' : List ℤ) → n ≤ pitch → n ≤ 2 * half → row * pitch + n ≤ length plane
+        → plane' ≡ fill plane (row * pitch) n (wovenRow steps shift half (row * stride) work)
+        → RowsDone steps shift half stride came pitch n plane row → RowsDone steps shift half stride came pitch n plane' (row + 1)
+    rows-put pitch n plane plane' narrow part inside new sofar r x h below =
+        rw (new, fill-same plane (row * pitch) _ (wovenRow steps shift half (row * stride) came) n (λ k less. row-same k (omega arith)))
+        (rows-stored plane pitch row n (λ q. wovenRow steps shift half (q * stride) came) (pos 0) narrow inside sofar r x h below)
 
-        pub rows-more :
-            allNewFit 1 (2 * half) (map rows steps) (halfRow half (row * stride) work) ≡ true
-            → ((x : ℕ) → x < 2 * half → fits32 (wovenRow steps shift half (row * stride) work x) ≡ true)
-            → RowsDone steps shift half stride came work' (row + 1)
-        rows-more fits new-small =
-            record {
-              done =
-                  λ r x h below.
-                  elim (decLt r row) [
-                    | yes earlier ↦ row-kept r x (omega arith) below ∙ above .done r x earlier below
-                    | no notEarlier ↦
-                        let this : r ≡ row = omega arith in
-                        rw this (row-done x below)
-                  ];
-              left = λ r x h below. row-kept r x (omega arith) below ∙ above .left r x (omega arith) below;
-              small =
-                  λ r x h below.
-                  elim (decLt r row) [
-                    | yes earlier ↦ above .small r x earlier below
-                    | no notEarlier ↦
-                        let this : r ≡ row = omega arith in
-                        rw (this, ← row-same x below) (new-small x below)
-                  ];
-              fit = all-more _ row ∙ and-true _ _ (above .fit) (sym row-fits ∙ fits);
-            }
+    -- the same for a picture of fewer rows, to which nothing is added where they all stand
+    pub rows-cropped :
+        (height n count : ℕ) (plane plane' : List ℤ) → n ≤ 2 * half → height * n ≤ length plane
+        → (row < height → count ≡ n) → (height ≤ row → count ≡ 0)
+        → plane' ≡ fill plane (row * count) count (wovenRow steps shift half (row * stride) work)
+        → RowsDone steps shift half stride came n n plane (min row height) → RowsDone steps shift half stride came n n plane' (min (row + 1) height)
+    rows-cropped height n count plane plane' part inside counted none new sofar r x h below =
+        elim (decLt row height) [
+          | yes less ↦
+              rows-put n n plane plane' (omega arith) part (omega (arith, row-room n row height less)) (subst (λ (m : ℕ). plane' ≡ fill plane (row * m) m (wovenRow steps shift half (row * stride) work)) (counted less) new)
+              (λ q y hq hy. sofar q y (omega arith) hy) r x (omega arith) below
+          | no notLess ↦
+              let same = subst (λ (m : ℕ). plane' ≡ fill plane (row * m) m (wovenRow steps shift half (row * stride) work)) (none (omega arith)) new in
+              rw (same, fill-none plane (row * 0) (wovenRow steps shift half (row * stride) work)) (sofar r x (omega arith) below)
+        ]

@@ -27,6 +27,8 @@ use crate::filters::step_count;
 use crate::reach::Reach;
 use crate::reach::reach_after;
 use crate::reach::stays_small;
+use base::plane::copy;
+use base::plane::zero_part;
 use lines::buffers::extend;
 use lines::buffers::weave;
 use lines::measures::copy_measured;
@@ -60,6 +62,91 @@ pub fn filter_rows(
         }
         row += 1;
     }
+    true
+}
+
+// Runs the steps of a filter, and its shift, on every row of a picture whose rows stand as two halves. The first `width` numbers of the first
+// `height` rows go to the samples, row by row, and the rows of the plane are zeroed. False where a new number of a step is outside 32 bits; then
+// the numbers of both planes are of no use.
+pub fn finish_rows(
+    work: &mut [i32],
+    samples: &mut [i32],
+    low: &mut [i32; 2056],
+    high: &mut [i32; 2056],
+    sums: &mut [i32; 4096],
+    frame: Frame,
+    wavelet: usize,
+    width: usize,
+    height: usize,
+) -> bool
+    requires { ⌜ Placed frame (now work) × (wavelet ≤ 6) ⌝ }
+    requires { ⌜ (width ≤ 2 * frame .«band_columns») × (height ≤ 2 * frame .«band_rows») × (height * width ≤ length (now samples)) ⌝ }
+    ensures told { λ r. ⌜ r ≡ allNewFit (2 * frame .«band_rows») (2 * frame .«band_columns») (map rows (filterOf wavelet .steps)) (halvesOf (frame .«band_columns») (frame .stride) (now (work .entry))) ⌝ }
+    ensures done { λ r. ⌜ (r ≡ true → Agree height width (pictureOf width (now (samples .exit))) (λ row x. shifted (filterOf wavelet .shift) (runAll (2 * frame .«band_rows») (2 * frame .«band_columns») (map rows (filterOf wavelet .steps)) (halvesOf (frame .«band_columns») (frame .stride) (now (work .entry))) row x))) ⌝ }
+    ensures fit { λ r. ⌜ (r ≡ true → (row x : ℕ) → row < 2 * frame .«band_rows» → x < 2 * frame .«band_columns» → fits32 (shifted (filterOf wavelet .shift) (runAll (2 * frame .«band_rows») (2 * frame .«band_columns») (map rows (filterOf wavelet .steps)) (halvesOf (frame .«band_columns») (frame .stride) (now (work .entry))) row x)) ≡ true) ⌝ }
+    ensures cleared { λ r. ⌜ (r ≡ true → (row x : ℕ) → row < 2 * frame .«band_rows» → x < 2 * frame .«band_columns» → getD (now (work .exit)) (row * frame .stride + x) (pos 0) ≡ pos 0) ⌝ }
+{
+    let half = frame.band_columns;
+    let stride = frame.stride;
+    let rows = 2 * frame.band_rows;
+    let mut row = 0;
+    while row < rows {
+        let count = kept_columns(row, width, height);
+        if !finish_row(
+            work,
+            row * stride,
+            samples,
+            row * count,
+            count,
+            low,
+            high,
+            sums,
+            half,
+            wavelet,
+        ) {
+            return false;
+        }
+        row += 1;
+    }
+    true
+}
+
+// How many columns of a row are kept in a picture of this width and height.
+fn kept_columns(row: usize, width: usize, height: usize) -> usize
+    ensures inside { λ r. ⌜ (row < height → r ≡ width) ⌝ }
+    ensures below { λ r. ⌜ (height ≤ row → r ≡ 0) ⌝ }
+{
+    if row < height {
+        return width;
+    }
+    0
+}
+
+// The same for the row that starts at a place of the plane; its first `count` numbers go to a place of the samples.
+fn finish_row(
+    work: &mut [i32],
+    place: usize,
+    samples: &mut [i32],
+    to: usize,
+    count: usize,
+    low: &mut [i32; 2056],
+    high: &mut [i32; 2056],
+    sums: &mut [i32; 4096],
+    half: usize,
+    wavelet: usize,
+) -> bool
+    requires { ⌜ (1 ≤ half) × (half ≤ 2048) × (place + 2 * half ≤ length (now work)) × (wavelet ≤ 6) ⌝ }
+    requires { ⌜ (count ≤ 2 * half) × (to + count ≤ length (now samples)) ⌝ }
+    ensures told { λ r. ⌜ r ≡ allNewFit 1 (2 * half) (map rows (filterOf wavelet .steps)) (λ row x. getD (now (work .entry)) (place + halfPlace half x) (pos 0)) ⌝ }
+    ensures done { λ r. ⌜ (r ≡ true → now (samples .exit) ≡ fill (now (samples .entry)) to count (λ x. shifted (filterOf wavelet .shift) (runAll 1 (2 * half) (map rows (filterOf wavelet .steps)) (λ row k. getD (now (work .entry)) (place + halfPlace half k) (pos 0)) 0 x))) ⌝ }
+    ensures fit { λ r. ⌜ (r ≡ true → (x : ℕ) → x < 2 * half → fits32 (shifted (filterOf wavelet .shift) (runAll 1 (2 * half) (map rows (filterOf wavelet .steps)) (λ row k. getD (now (work .entry)) (place + halfPlace half k) (pos 0)) 0 x)) ≡ true) ⌝ }
+    ensures cleared { λ r. ⌜ (r ≡ true → now (work .exit) ≡ fill (now (work .entry)) place (2 * half) (λ x. pos 0)) ⌝ }
+{
+    if !filter_row(work, place, low, high, sums, half, wavelet) {
+        return false;
+    }
+    copy(samples, to, work, place, count);
+    zero_part(work, place, 2 * half);
     true
 }
 

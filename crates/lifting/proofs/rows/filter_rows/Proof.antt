@@ -7,14 +7,15 @@ use native.Mathlib.Omega.{arith}
 use borrow.Author.Tests.{not-true, not-false}
 use lib.ListN.{length}
 use Rattle.lifting.specs.Filters.{filterOf}
-use Rattle.base.proofs.Grids.{row-room}
-use Rattle.lifting.proofs.PlaneRows.{RowsDone, rows-none, rows-told, rows-done, rows-small, rows-fail, rows-more}
+use Rattle.lifting.proofs.Frames.{row-inside}
+use Rattle.lifting.proofs.PlaneRows.{RowsDone, RowsMet, rows-none, rows-told, rows-done, rows-small, rows-fail, rows-more, rows-put}
 use Rattle.lifting.proofs.rows.filter_rows.Statement.{statement}
 use Rattle.lifting.proofs.rows.filter_rows.Tie as tie
 
 abbrev Inv-loop : tie.InvT-loop
 Inv-loop work₀ low₀ high₀ sums₀ wavelet half stride height row₀ work low high sums row =
-    (row ≤ height) × (length work ≡ length work₀) × RowsDone (filterOf wavelet .steps) (filterOf wavelet .shift) half stride work₀ work row
+    (row ≤ height) × (length work ≡ length work₀) × RowsMet (filterOf wavelet .steps) (filterOf wavelet .shift) half stride work₀ work row
+    × RowsDone (filterOf wavelet .steps) (filterOf wavelet .shift) half stride work₀ stride (2 * half) work row
 
 abbrev μ-loop : tie.MeasureT-loop
 μ-loop work₀ low₀ high₀ sums₀ wavelet half stride height row₀ work low high sums row = height - row
@@ -25,33 +26,27 @@ mul-height c = omega (arith, c .before .pre .0 .rows-most)
 loop-holds : tie.Need-loop-holds Inv-loop μ-loop
 loop-holds c =
     let start = c .before in
-    (omega arith, refl, rows-none _ _ _ _ (start .pre .0 .columns-least) (start .pre .0 .apart) _)
+    (omega arith, refl, rows-none _ _ _ _ (start .pre .0 .columns-least) (start .pre .0 .apart) _, λ r x h. absurd (omega arith))
 
 -- a row of the picture lies in the plane
-row-inside :
+inside :
     (c : tie.In-loop Inv-loop μ-loop)
     → let head = c .before in
     let start = head .before .before in
     head .loop .row * start .args .frame .stride + 2 * start .args .frame .«band_columns» ≤ length (head .loop .work)
-row-inside c =
+inside c =
     let head = c .before in
     let start = head .before .before in
-    omega (
-      arith,
-      row-room (start .args .frame .stride) (head .loop .row) (2 * start .args .frame .«band_rows») (c .loop-test .taken),
-      start .pre .0 .apart,
-      start .pre .0 .inside,
-      head .loop .inv .1,
-    )
+    row-inside (start .args .frame) (start .args .work .now) (head .loop .work) (start .pre .0) (head .loop .inv .1) (head .loop .row) (c .loop-test .taken)
 
 mul-filter-row : tie.Need-mul-filter-row Inv-loop μ-loop
-mul-filter-row c = omega (arith, row-inside (c .before), c .before .before .loop .inv .1, c .before .before .before .before .good .0 .0)
+mul-filter-row c = omega (arith, inside (c .before), c .before .before .loop .inv .1, c .before .before .before .before .good .0 .0)
 
 filter-row-requires : tie.Need-filter-row-requires Inv-loop μ-loop
 filter-row-requires c κs =
     let turn = c .before .before .before .before in
     let start = turn .before .before .before in
-    (start .pre .0 .columns-least, start .pre .0 .columns-most, row-inside turn, start .pre .1)
+    (start .pre .0 .columns-least, start .pre .0 .columns-most, inside turn, start .pre .1)
 
 same-length : tie.Need-same-length Inv-loop μ-loop
 same-length c = c .before .before .filter-row .kept .0 ∙ c .before .before .before .before .before .before .before .before .loop .inv .1
@@ -85,8 +80,10 @@ loop-again c =
     let went = not-false _ (c .if1 .left) in (
       omega (arith, turn .loop-test .taken),
       called .kept .0 ∙ head .loop .inv .1,
-      rows-more _ _ _ _ (start .pre .0 .columns-least) (start .pre .0 .apart) _ (head .loop .work) (head .loop .row) (head .loop .inv .2) _
-          (row-inside turn) (called .ensures .1 .0 went) (sym (called .ensures .0) ∙ went) (called .ensures .1 .1 went),
+      rows-more _ _ _ _ (start .pre .0 .columns-least) (start .pre .0 .apart) _ (head .loop .work) (head .loop .row) (head .loop .inv .2) _ _
+          (called .ensures .1 .0 went) (sym (called .ensures .0) ∙ went) (called .ensures .1 .1 went),
+      rows-put _ _ _ _ (start .pre .0 .columns-least) (start .pre .0 .apart) _ (head .loop .work) (head .loop .row) (head .loop .inv .2) _ _ _ _
+          (start .pre .0 .apart) (omega arith) (inside turn) (called .ensures .1 .0 went) (head .loop .inv .3),
     )
 
 same-length-2 : tie.Need-same-length-2 Inv-loop μ-loop
@@ -97,11 +94,12 @@ returns-2 c =
     let head = c .before in
     let start = head .before .before in
     let all : head .loop .row ≡ 2 * start .args .frame .«band_rows» = omega (arith, c .loop-test .left, head .loop .inv .0) in
-    let done = rw all at (head .loop .inv .2) in (
-      sym (rows-told _ _ _ _ (start .pre .0 .columns-least) (start .pre .0 .apart) _ (2 * start .args .frame .«band_rows») (head .loop .work) done),
+    let met = rw all at (head .loop .inv .2) in (
+      sym (rows-told _ _ _ _ (start .pre .0 .columns-least) (start .pre .0 .apart) _ (2 * start .args .frame .«band_rows») (head .loop .work) met),
       (
-        λ fits. rows-done _ _ _ _ (start .pre .0 .columns-least) (start .pre .0 .apart) _ (2 * start .args .frame .«band_rows») (head .loop .work) done,
-        λ fits. rows-small _ _ _ _ (start .pre .0 .columns-least) (start .pre .0 .apart) _ (2 * start .args .frame .«band_rows») (head .loop .work) done,
+        λ fits. rows-done (filterOf (start .args .wavelet) .steps) _ _ _ (start .pre .0 .columns-least) (start .pre .0 .apart) (start .args .work .now) _ _ _ _ (head .loop .work)
+            (rw all at (head .loop .inv .3)),
+        λ fits. rows-small _ _ _ _ (start .pre .0 .columns-least) (start .pre .0 .apart) _ (2 * start .args .frame .«band_rows») (head .loop .work) met,
       ),
     )
 
