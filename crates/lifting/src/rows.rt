@@ -37,34 +37,6 @@ use lines::small::sum_small;
 use lines::sums::lift_line;
 use lines::sums::sum_taps;
 
-// Runs the steps of a filter, and its shift, on every row of a picture whose rows stand as two halves; they are woven in the end. False where
-// a new number of a step is outside 32 bits; then the plane's numbers are of no use.
-pub fn filter_rows(
-    work: &mut [i32],
-    low: &mut [i32; 2056],
-    high: &mut [i32; 2056],
-    sums: &mut [i32; 4096],
-    frame: Frame,
-    wavelet: usize,
-) -> bool
-    requires { ⌜ Placed frame (now work) × (wavelet ≤ 6) ⌝ }
-    ensures told { λ r. ⌜ r ≡ allNewFit (2 * frame .«band_rows») (2 * frame .«band_columns») (map rows (filterOf wavelet .steps)) (halvesOf (frame .«band_columns») (frame .stride) (now (work .entry))) ⌝ }
-    ensures done { λ r. ⌜ (r ≡ true → Agree (2 * frame .«band_rows») (2 * frame .«band_columns») (pictureOf (frame .stride) (now (work .exit))) (λ row x. shifted (filterOf wavelet .shift) (runAll (2 * frame .«band_rows») (2 * frame .«band_columns») (map rows (filterOf wavelet .steps)) (halvesOf (frame .«band_columns») (frame .stride) (now (work .entry))) row x))) ⌝ }
-    ensures fit { λ r. ⌜ (r ≡ true → (row x : ℕ) → row < 2 * frame .«band_rows» → x < 2 * frame .«band_columns» → fits32 (shifted (filterOf wavelet .shift) (runAll (2 * frame .«band_rows») (2 * frame .«band_columns») (map rows (filterOf wavelet .steps)) (halvesOf (frame .«band_columns») (frame .stride) (now (work .entry))) row x)) ≡ true) ⌝ }
-{
-    let half = frame.band_columns;
-    let stride = frame.stride;
-    let height = 2 * frame.band_rows;
-    let mut row = 0;
-    while row < height {
-        if !filter_row(work, row * stride, low, high, sums, half, wavelet) {
-            return false;
-        }
-        row += 1;
-    }
-    true
-}
-
 // Runs the steps of a filter, and its shift, on every row of a picture whose rows stand as two halves. The first `width` numbers of the first
 // `height` rows go to the samples, row by row, and the rows of the plane are zeroed. False where a new number of a step is outside 32 bits; then
 // the numbers of both planes are of no use.
@@ -111,17 +83,6 @@ pub fn finish_rows(
     true
 }
 
-// How many columns of a row are kept in a picture of this width and height.
-fn kept_columns(row: usize, width: usize, height: usize) -> usize
-    ensures inside { λ r. ⌜ (row < height → r ≡ width) ⌝ }
-    ensures below { λ r. ⌜ (height ≤ row → r ≡ 0) ⌝ }
-{
-    if row < height {
-        return width;
-    }
-    0
-}
-
 // The same for the row that starts at a place of the plane; its first `count` numbers go to a place of the samples.
 fn finish_row(
     work: &mut [i32],
@@ -147,6 +108,45 @@ fn finish_row(
     }
     copy(samples, to, work, place, count);
     zero_part(work, place, 2 * half);
+    true
+}
+
+// How many columns of a row are kept in a picture of this width and height.
+fn kept_columns(row: usize, width: usize, height: usize) -> usize
+    ensures inside { λ r. ⌜ (row < height → r ≡ width) ⌝ }
+    ensures below { λ r. ⌜ (height ≤ row → r ≡ 0) ⌝ }
+{
+    if row < height {
+        return width;
+    }
+    0
+}
+
+// Runs the steps of a filter, and its shift, on every row of a picture whose rows stand as two halves; they are woven in the end. False where
+// a new number of a step is outside 32 bits; then the plane's numbers are of no use.
+pub fn filter_rows(
+    work: &mut [i32],
+    low: &mut [i32; 2056],
+    high: &mut [i32; 2056],
+    sums: &mut [i32; 4096],
+    frame: Frame,
+    wavelet: usize,
+) -> bool
+    requires { ⌜ Placed frame (now work) × (wavelet ≤ 6) ⌝ }
+    ensures told { λ r. ⌜ r ≡ allNewFit (2 * frame .«band_rows») (2 * frame .«band_columns») (map rows (filterOf wavelet .steps)) (halvesOf (frame .«band_columns») (frame .stride) (now (work .entry))) ⌝ }
+    ensures done { λ r. ⌜ (r ≡ true → Agree (2 * frame .«band_rows») (2 * frame .«band_columns») (pictureOf (frame .stride) (now (work .exit))) (λ row x. shifted (filterOf wavelet .shift) (runAll (2 * frame .«band_rows») (2 * frame .«band_columns») (map rows (filterOf wavelet .steps)) (halvesOf (frame .«band_columns») (frame .stride) (now (work .entry))) row x))) ⌝ }
+    ensures fit { λ r. ⌜ (r ≡ true → (row x : ℕ) → row < 2 * frame .«band_rows» → x < 2 * frame .«band_columns» → fits32 (shifted (filterOf wavelet .shift) (runAll (2 * frame .«band_rows») (2 * frame .«band_columns») (map rows (filterOf wavelet .steps)) (halvesOf (frame .«band_columns») (frame .stride) (now (work .entry))) row x)) ≡ true) ⌝ }
+{
+    let half = frame.band_columns;
+    let stride = frame.stride;
+    let height = 2 * frame.band_rows;
+    let mut row = 0;
+    while row < height {
+        if !filter_row(work, row * stride, low, high, sums, half, wavelet) {
+            return false;
+        }
+        row += 1;
+    }
     true
 }
 
