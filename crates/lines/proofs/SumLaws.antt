@@ -100,6 +100,9 @@ pair-size tap a b = rw (spread tap a b) (size-add (tap *ℤ a) (tap *ℤ b))
 pub times-one : (z : ℤ) → pos 1 *ℤ z ≡ z
 times-one z = sucℤ-*ℤ (pos 0) z ∙ rw (zero-*ℤ z) (+ℤ-idl z)
 
+pub times-minus-one : (s z : ℤ) → s +ℤ negsuc 0 *ℤ z ≡ s -ℤ z
+times-minus-one s z = ap (λ (t : ℤ). s +ℤ t) (minus-times 0 z ∙ ap negℤ (times-one z))
+
 pub slight : (z : ℤ) → natAbs z < 2 ^ 31 → fits32 z ≡ true
 slight z h = below-fits32 z (omega (arith, mag-size z))
 

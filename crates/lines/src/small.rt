@@ -84,9 +84,26 @@ fn add_pair(
     requires { ⌜ ((x : ℕ) → x < width → natAbs (getD (now sums) x (pos 0)) + (natAbs (tap *ℤ getD (now source) (first + x) (pos 0)) + natAbs (tap *ℤ getD (now source) (second + x) (pos 0))) < 2 ^ 31) ⌝ }
     ensures { λ _. ⌜ now (sums .exit) ≡ fill (now (sums .entry)) 0 width (λ x. getD (now (sums .entry)) x (pos 0) +ℤ tap *ℤ (getD (now (source .entry)) (first + x) (pos 0) +ℤ getD (now (source .entry)) (second + x) (pos 0))) ⌝ }
 {
+    if tap == -1 {
+        take_both(sums, source, first, second, width);
+        return;
+    }
     let mut x = 0;
     while x < width {
         sums[x] = with_pair(sums[x], tap, source[first + x], source[second + x]);
+        x += 1;
+    }
+}
+
+// The same for two taps of −1, with no product.
+fn take_both(sums: &mut [i32; 4096], source: &[i32], first: usize, second: usize, width: usize)
+    requires { ⌜ (width ≤ 4096) × (first + width ≤ length (now source)) × (second + width ≤ length (now source)) ⌝ }
+    requires { ⌜ ((x : ℕ) → x < width → natAbs (getD (now sums) x (pos 0)) + (natAbs (getD (now source) (first + x) (pos 0)) + natAbs (getD (now source) (second + x) (pos 0))) < 2 ^ 31) ⌝ }
+    ensures { λ _. ⌜ now (sums .exit) ≡ fill (now (sums .entry)) 0 width (λ x. getD (now (sums .entry)) x (pos 0) -ℤ (getD (now (source .entry)) (first + x) (pos 0) +ℤ getD (now (source .entry)) (second + x) (pos 0))) ⌝ }
+{
+    let mut x = 0;
+    while x < width {
+        sums[x] = without_both(sums[x], source[first + x], source[second + x]);
         x += 1;
     }
 }
@@ -208,6 +225,14 @@ fn with_both(sum: i32, a: i32, b: i32) -> i32
     ensures { λ r. ⌜ r ≡ sum +ℤ (a +ℤ b) ⌝ }
 {
     add(sum, add(a, b))
+}
+
+// A sum with two taps of −1 added.
+fn without_both(sum: i32, a: i32, b: i32) -> i32
+    requires { ⌜ natAbs sum + (natAbs a + natAbs b) < 2 ^ 31 ⌝ }
+    ensures { λ r. ⌜ r ≡ sum -ℤ (a +ℤ b) ⌝ }
+{
+    sub(sum, add(a, b))
 }
 
 // The sum, where it fits.
