@@ -1,24 +1,27 @@
 -- Laws of the levels' frames: the picture of depth n stands in the work plane with rows that are apart, and the level below in every
 -- other row of it.
 -- Assumes nothing.
-use mathlib.Core.Path.{_≡_, sym, _∙_, subst}
+use mathlib.Core.Path.{_≡_, sym, ap, _∙_, subst}
 use mathlib.Core.List.{List}
 use mathlib.Core.Bool.{true}
-use Prim.Native.Nat.{ℕ, suc, _+_, _-_, _*_, _%_, _^_, _≤_}
+use Prim.Native.Nat.{ℕ, suc, _+_, _-_, _*_, _%_, _^_, _≤_, _<_}
 use native.Mathlib.Nat.{mul-assoc, mul-comm, mul-one, mul-le-mul-left, mul-le-mul-right, pow-suc}
 use native.Mathlib.Omega.{arith}
-use lib.IntN.{ℤ}
-use lib.ListN.{length}
+use lib.IntN.{ℤ, pos}
+use lib.ListN.{length, getD}
 use lib.Pow.{pow-pos, shl-exact}
+use Rattle.base.specs.Fill.{zerosLike}
 use Rattle.component.specs.Sizes.{sizeAt, paddedSize}
 use Rattle.component.specs.Checks.{sizesInRange, depthInRange, areaOf}
 use Rattle.component.specs.declared.parameters.Parameters.{Parameters}
 use Rattle.component.proofs.SizeLaws.{sizeAt-power, sizeAt-mono, sizeAt-least, sizeAt-rest, sizeAt-padded, low-some, padded-most}
 use Rattle.component.proofs.CheckLaws.{width-least, width-most, height-least, height-most, depth-most}
 use Rattle.lifting.specs.Layout.{Placed}
+use Rattle.lifting.specs.Planes.{pictureOf}
 use Rattle.lifting.specs.declared.columns.Frame.{Frame}
 use Rattle.transform.specs.Geometry.{Geometry, extentOf}
 use Rattle.transform.specs.declared.levels.Extent.{Extent}
+use Rattle.transform.proofs.Rasters.{all-zeros}
 
 -- a size shifted up by at most 4 loses nothing
 pub size-shifted : (size k : ℕ) → size ≤ 4096 → k ≤ 4 → (size * 2 ^ k) % 2 ^ 64 ≡ size * 2 ^ k
@@ -51,6 +54,11 @@ module _ (e : Extent) (area : ℕ) (g : Geometry e area) where
 
   pub low-columns-most : e .«low_columns» ≤ 4096
   low-columns-most = omega (arith, low-narrow, g .width-most)
+
+-- a fact about four numbers, carried to equal ones
+carried : (P : ℕ → ℕ → ℕ → ℕ → Type 0) (a b s t a′ b′ s′ t′ : ℕ) → a ≡ a′ → b ≡ b′ → s ≡ s′ → t ≡ t′ → P a b s t → P a′ b′ s′ t′
+carried P a b s t a′ b′ s′ t′ ea eb es et h =
+    subst (λ (x : ℕ). P x b′ s′ t′) ea (subst (λ (x : ℕ). P a x s′ t′) eb (subst (λ (x : ℕ). P a b x t′) es (subst (λ (x : ℕ). P a b s x) et h)))
 
 module _ (e : Extent) (area : ℕ) (g : Geometry e area) (m : ℕ) (deep : suc m ≤ e .depth) where
   -- the picture of depth m + 1 fits the plane, its rows and columns too
@@ -93,6 +101,25 @@ module _ (e : Extent) (area : ℕ) (g : Geometry e area) (m : ℕ) (deep : suc m
   double-stride =
       let up : e .depth - m ≡ suc (e .depth - suc m) = omega arith in
       rw (up, pow-suc 2 (e .depth - suc m), ← mul-assoc (e .«padded_width») (2 ^ (e .depth - suc m)) 2) (mul-comm 2 (e .«padded_width» * 2 ^ (e .depth - suc m)))
+
+  -- what holds of a frame's sizes holds of those that the extent gives
+  pub by-sizes : (f : Frame) → f .stride ≡ e .«padded_width» * 2 ^ (e .depth - suc m) → f .«band_rows» ≡ sizeAt (e .«low_rows») m → f .«band_columns» ≡ sizeAt (e .«low_columns») m →
+      (P : ℕ → ℕ → ℕ → ℕ → Type 0) → P (f .«band_rows») (f .«band_columns») (f .stride) (2 * f .stride) →
+      P (sizeAt (e .«low_rows») m) (sizeAt (e .«low_columns») m) (e .«padded_width» * 2 ^ (e .depth - suc m)) (e .«padded_width» * 2 ^ (e .depth - m))
+  by-sizes f stride rows columns P holds = carried P _ _ _ _ _ _ _ _ rows columns stride (ap (λ (s : ℕ). 2 * s) stride ∙ double-stride) holds
+
+  -- at the last level its rows are the whole plane
+  pub cleared-all : (f : Frame) → f .stride ≡ e .«padded_width» * 2 ^ (e .depth - suc m) → f .«band_rows» ≡ sizeAt (e .«low_rows») m → f .«band_columns» ≡ sizeAt (e .«low_columns») m →
+      suc m ≡ e .depth → (plane plane₀ : List ℤ) → length plane ≡ area → length plane₀ ≡ area →
+      ((row x : ℕ) → row < 2 * f .«band_rows» → x < 2 * f .«band_columns» → getD plane (row * f .stride + x) (pos 0) ≡ pos 0) → plane ≡ zerosLike plane₀
+  unfolding sizeAt pictureOf
+  cleared-all f stride rows columns last plane plane₀ long long₀ zeros =
+      let none : e .depth - suc m ≡ 0 = omega arith in
+      let wide : f .stride ≡ e .«padded_width» = stride ∙ rw none (mul-one (e .«padded_width»)) in
+      let whole : 2 * sizeAt (e .«low_columns») m ≡ e .«padded_width» = subst (λ (k : ℕ). sizeAt (e .«low_columns») k ≡ e .«padded_width») (sym last) (sym (g .width)) in
+      let all : 2 * f .«band_rows» * f .stride ≡ area = rw (rows, stride) stride-rows in
+      all-zeros (2 * f .«band_rows») (f .stride) plane plane₀ (omega (arith, wide, whole, sizeAt-least (e .«low_columns») m (g .columns-least))) (long ∙ sym all) (long₀ ∙ sym all)
+      (λ row x r c. zeros row x r (omega (arith, wide, whole, columns)))
 
 -- the geometry of parameters that passed the checks
 pub geometry-of : (p : Parameters) → sizesInRange p ≡ true → depthInRange p ≡ true → (area : ℕ) → area ≡ areaOf p → Geometry (extentOf p) area

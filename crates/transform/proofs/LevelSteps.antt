@@ -164,10 +164,9 @@ module _ (f : Filter) (bh b : ℕ) (tall : 1 ≤ bh) (wide : 1 ≤ b) (I : Pictu
       level-told fit =
           rows-told ∙ sym (level-test ∙ rw columns-pass (rows-decide fit (allNewFit h w byRows filtered) refl))
 
-      -- and its picture is the one that stands in the plane in the end
-      pub level-done : (U : Picture) → Agree h w U shiftedRows → Agree h w U (runAll h w (synthesisPasses f) I)
-      level-done U last row x r i =
-          last row x r i
-          ∙ ap (shifted (f .shift)) (runAll-same h w evenH evenW byRows (halved b T) filtered columns-done row x r i)
+      -- and its picture is the one that the rows and the shift make
+      pub level-at : Agree h w shiftedRows (runAll h w (synthesisPasses f) I)
+      level-at row x r i =
+          ap (shifted (f .shift)) (runAll-same h w evenH evenW byRows (halved b T) filtered columns-done row x r i)
           ∙ sym (shift-run h w (f .shift) (runAll h w byRows filtered) row x)
           ∙ ap (λ (P : Picture). P row x) (sym level-run)

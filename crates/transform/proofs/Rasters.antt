@@ -7,8 +7,9 @@ use native.Mathlib.Nat.{mod-lt, div-add-mod', div-lt-iff-lt-mul}
 use native.Mathlib.Omega.{arith}
 use lib.Arith.{digits-lt, digits-div, digits-mod}
 use lib.IntN.{ℤ, pos}
-use lib.ListN.{length}
+use lib.ListN.{length, replicate, length-replicate, getD-replicate}
 use lib.Seq.{ext-getD}
+use Rattle.base.specs.Fill.{zerosLike}
 use Rattle.base.proofs.Fills.{length-tabulate, getD-tabulate}
 use Rattle.lifting.specs.Passes.{Picture}
 use Rattle.lifting.specs.Planes.{pictureOf, raster}
@@ -41,3 +42,11 @@ module _ (h w : ℕ) where
   pub raster-same : (P Q : Picture) → 1 ≤ w → Agree h w P Q → raster h w P ≡ raster h w Q
   raster-same P Q some agree =
       raster-is P (raster h w Q) some (length-raster Q) (λ row column r c. agree row column r c ∙ sym (picture-raster Q row column r c))
+
+  -- a plane of zeros
+  pub all-zeros : (plane plane₀ : List ℤ) → 1 ≤ w → length plane ≡ h * w → length plane₀ ≡ h * w → Agree h w (pictureOf w plane) (λ row x. pos 0) → plane ≡ zerosLike plane₀
+  unfolding zerosLike pictureOf
+  all-zeros plane plane₀ some size size₀ zeros =
+      sym (raster-is (λ row x. pos 0) plane some size (λ row x r c. sym (zeros row x r c)))
+      ∙ raster-is (λ row x. pos 0) (zerosLike plane₀) some (length-replicate (length plane₀) (pos 0) ∙ size₀)
+      (λ row x r c. sym (getD-replicate (length plane₀) (row * w + x) (pos 0) (pos 0) (rw size₀ (digits-lt r c))))

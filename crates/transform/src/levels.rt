@@ -2,6 +2,7 @@
 ghost use mathlib.Core.Path.{_≡_};
 ghost use mathlib.Core.Bool.{true};
 ghost use Prim.Native.Nat.{suc, _-_, _*_, _^_, _≤_};
+ghost use Rattle.base.specs.Fill.{zerosLike};
 ghost use lib.ListN.{length};
 ghost use Rattle.component.specs.Sizes.{sizeAt};
 ghost use Rattle.lifting.specs.Filters.{filterOf};
@@ -15,6 +16,7 @@ use crate::bands::interleave_bands;
 use lifting::columns::Frame;
 use lifting::columns::filter_columns;
 use lifting::rows::filter_rows;
+use lifting::rows::finish_rows;
 
 // The padded width of a component, the size of its low band, and its depth.
 pub struct Extent {
@@ -95,6 +97,98 @@ fn synthesise_level(
         return false;
     }
     filter_rows(work, low, high, sums, frame, wavelet)
+}
+
+// Builds the picture of the last level likewise. Its first rows and columns go to the samples, and the work plane is zeroed. False where it
+// assigns a number outside 32 bits; then the numbers of both planes are of no use.
+fn finish_level(
+    work: &mut [i32],
+    samples: &mut [i32],
+    coefficients: &[i32],
+    low: &mut [i32; 2056],
+    high: &mut [i32; 2056],
+    sums: &mut [i32; 4096],
+    extent: Extent,
+    wavelet: usize,
+    below: usize,
+    width: usize,
+    height: usize,
+) -> bool
+    requires { ⌜ Geometry extent (length (now work)) × (length (now coefficients) ≡ length (now work)) × (wavelet ≤ 6) × (suc below ≡ extent .depth) ⌝ }
+    requires { ⌜ (width ≤ sizeAt (extent .«low_columns») (suc below)) × (height ≤ sizeAt (extent .«low_rows») (suc below)) × (height * width ≤ length (now samples)) ⌝ }
+    ensures told { λ r. ⌜ r ≡ allNewFit (sizeAt (extent .«low_rows») (suc below)) (sizeAt (extent .«low_columns») (suc below)) (synthesisPasses (filterOf wavelet)) (interleave (sizeAt (extent .«low_rows») below) (sizeAt (extent .«low_columns») below) (pictureOf (extent .«padded_width» * 2 ^ (extent .depth - below)) (now (work .entry))) (pictureOf (extent .«padded_width») (now (coefficients .entry)))) ⌝ }
+    ensures done { λ r. ⌜ (r ≡ true → Agree height width (pictureOf width (now (samples .exit))) (runAll (sizeAt (extent .«low_rows») (suc below)) (sizeAt (extent .«low_columns») (suc below)) (synthesisPasses (filterOf wavelet)) (interleave (sizeAt (extent .«low_rows») below) (sizeAt (extent .«low_columns») below) (pictureOf (extent .«padded_width» * 2 ^ (extent .depth - below)) (now (work .entry))) (pictureOf (extent .«padded_width») (now (coefficients .entry)))))) ⌝ }
+    ensures cleared { λ r. ⌜ (r ≡ true → now (work .exit) ≡ zerosLike (now (work .entry))) ⌝ }
+{
+    let frame = next_frame(extent, below);
+    let most = interleave_bands(work, coefficients, extent.padded_width, frame);
+    if !filter_columns(work, sums, frame, wavelet, most) {
+        return false;
+    }
+    finish_rows(
+        work,
+        samples,
+        low,
+        high,
+        sums,
+        frame,
+        wavelet,
+        width,
+        height,
+    )
+}
+
+// Builds the levels below the last in the work plane and the last one in the samples, of which there is the component's first rows and columns.
+// Answers the first level that assigns a number outside 32 bits, and then the numbers of both planes are of no use; or 0, and then the work
+// plane is all zeros.
+pub fn synthesise_samples(
+    work: &mut [i32],
+    samples: &mut [i32],
+    coefficients: &[i32],
+    extent: Extent,
+    wavelet: usize,
+    width: usize,
+    height: usize,
+) -> usize
+    requires { ⌜ Geometry extent (length (now work)) × (length (now coefficients) ≡ length (now work)) × (wavelet ≤ 6) × (1 ≤ extent .depth) ⌝ }
+    requires { ⌜ (width ≤ sizeAt (extent .«low_columns») (extent .depth)) × (height ≤ sizeAt (extent .«low_rows») (extent .depth)) × (height * width ≤ length (now samples)) ⌝ }
+    ensures told { λ r. ⌜ r ≡ firstBadLevel (filterOf wavelet) (extent .«low_rows») (extent .«low_columns») (pictureOf (extent .«padded_width») (now (coefficients .entry))) (extent .depth) ⌝ }
+    ensures done { λ r. ⌜ (r ≡ 0 → Agree height width (pictureOf width (now (samples .exit))) (synthesis (filterOf wavelet) (extent .«low_rows») (extent .«low_columns») (pictureOf (extent .«padded_width») (now (coefficients .entry))) (extent .depth)) × (now (work .exit) ≡ zerosLike (now (work .entry)))) ⌝ }
+{
+    let mut low = [0i32; 2056];
+    let mut high = [0i32; 2056];
+    let mut sums = [0i32; 4096];
+    let below = extent.depth - 1;
+    let bad = synthesise_levels(
+        work,
+        coefficients,
+        &mut low,
+        &mut high,
+        &mut sums,
+        extent,
+        wavelet,
+        below,
+    );
+    if bad != 0 {
+        return bad;
+    }
+    if finish_level(
+        work,
+        samples,
+        coefficients,
+        &mut low,
+        &mut high,
+        &mut sums,
+        extent,
+        wavelet,
+        below,
+        width,
+        height,
+    ) {
+        0
+    } else {
+        extent.depth
+    }
 }
 
 // Where the picture of the next level stands in the work plane.

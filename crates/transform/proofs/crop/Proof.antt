@@ -50,7 +50,7 @@ returns c =
     let p = start .args .p in
     let copied = rw (c .before .before .before .padded-size .ensures) at (c .before .copy-rows .ensures) in
     sym
-    (raster-is (p .height) (p .width) (pictureOf (paddedSize (p .depth) (p .width)) (start .args .work .now)) (c .before .copy-rows .last .0)
+    (raster-is (p .height) (p .width) (pictureOf (paddedSize (p .depth) (p .width)) (start .args .padded .now)) (c .before .copy-rows .last .0)
     (width-least p (start .pre .0)) (c .before .copy-rows .kept .0 ∙ start .pre .3 ∙ mul-comm (p .width) (p .height))
     (λ row column r i. sym (copied row column r i)))
 

@@ -2,18 +2,14 @@
 -- Assumes nothing.
 use mathlib.Core.Path.{_≡_, sym, _∙_}
 use mathlib.Core.Bool.{true}
-use native.Mathlib.Omega.{arith}
 use borrow.Author.Needs.{needs}
 use borrow.Author.Tests.{not-false}
 use denote.Ref.{now}
 use Rattle.base.proofs.Fills.{zeros-length}
 use Rattle.component.specs.Checks.{sizesInRange, depthInRange, waveletInRange, refusalOf}
 use Rattle.component.specs.declared.parameters.Job.the-variants.{Synthesise}
-use Rattle.component.proofs.CheckLaws.{passed, width-least}
-use Rattle.lifting.specs.Planes.{pictureOf}
-use Rattle.transform.specs.Job.{outcome, unchanged, overflowed, accepted, lengthsOf, pictureFrom, paddedWidth}
-use Rattle.component.proofs.SizeLaws.{padded-least}
-use Rattle.transform.proofs.Rasters.{raster-same}
+use Rattle.component.proofs.CheckLaws.{passed}
+use Rattle.transform.specs.Job.{outcome, unchanged, overflowed, accepted, lengthsOf}
 use Rattle.transform.proofs.Jobs.{Fitted, fitted, job-refused, job-overflowed, job-accepted}
 use Rattle.transform.proofs.synthesise.Statement.{statement}
 use Rattle.transform.proofs.synthesise.Tie as tie
@@ -41,8 +37,9 @@ planes c = fitted _ _ (passed Synthesise _ _ (none c) .planes-pass)
 
 synthesise-picture-requires : tie.Need-synthesise-picture-requires
 synthesise-picture-requires c κs =
-    let checked = c .before in
-    (checks checked, (planes checked .coefficients-fit, planes checked .work-fits))
+    let checked = c .before .before in
+    let fit = planes checked in
+    (checks checked, (fit .coefficients-fit, fit .work-fits, fit .samples-fit))
 
 zero-requires : tie.Need-zero-requires
 zero-requires c κs = search needs
@@ -59,21 +56,12 @@ same-length-2 c = search needs
 returns-2 : tie.Need-returns-2
 unfolding outcome overflowed
 returns-2 c =
-    let start = c .before .before .before .before .before .before .before .before .before .before .before .before in
-    let picture = c .before .before .before .before .before .before .before .before .synthesise-picture in
+    let start = c .before .before .before .before .before .before .before .before .before .before .before .before .before .before in
+    let picture = c .before .before .before .before .before .before .before .before .before .synthesise-picture in
     let told = picture .ensures .0 in
     let some = c .before .before .before .before .before .before .if2 .taken in
-    rw (c .before .before .before .before .zero .ensures, c .before .zero2 .ensures, zeros-length (picture .last .1 .1 .0) (now (start .args .work)) (picture .kept .1 .1 .0), told)
-    (sym (job-overflowed (start .args .p) _ _ _ (none (c .before .before .before .before .before .before .before .before .before .before)) (λ e. some (told ∙ e))))
-
-crop-requires : tie.Need-crop-requires
-crop-requires c κs =
-    let checked = c .before .before .before .before .before .before in
-    let fit = planes checked in
-    (checks checked .0, checks checked .1, c .before .before .before .before .synthesise-picture .kept .1 .1 .0 ∙ fit .work-fits, fit .samples-fit)
-
-zero-requires-3 : tie.Need-zero-requires-3
-zero-requires-3 c κs = search needs
+    rw (c .before .before .before .before .zero .ensures, c .before .zero2 .ensures, zeros-length (picture .last .1 .1 .0) (now (start .args .work)) (picture .kept .1 .1 .0), zeros-length (picture .last .1 .1 .1 .0) (now (start .args .samples)) (picture .kept .1 .1 .1 .0), told)
+    (sym (job-overflowed (start .args .p) _ _ _ (none (c .before .before .before .before .before .before .before .before .before .before .before .before)) (λ e. some (told ∙ e))))
 
 same-length-3 : tie.Need-same-length-3
 same-length-3 c = search needs
@@ -84,16 +72,12 @@ same-length-4 c = search needs
 returns-3 : tie.Need-returns-3
 unfolding outcome accepted
 returns-3 c =
-    let start = c .before .before .before .before .before .before .before .before .before .before .before .before .before in
-    let p = start .args .p in
-    let checked = c .before .before .before .before .before .before .before .before .before .before .before in
-    let picture = c .before .before .before .before .before .before .before .before .before .synthesise-picture in
-    let fine = c .before .before .before .before .before .before .before .if2 .left in
-    let cropped =
-    raster-same (p .height) (p .width) (pictureOf (paddedWidth p) (picture .last .1 .1 .0)) (pictureFrom p (now (start .args .coefficients))) (width-least p (checks checked .0))
-    (λ row column r i. picture .ensures .1 fine row column (omega (arith, padded-least (p .depth) (p .height))) (omega (arith, padded-least (p .depth) (p .width)))) in
-    rw (c .before .zero3 .ensures, c .before .before .before .before .crop .ensures, zeros-length (picture .last .1 .1 .0) (now (start .args .work)) (picture .kept .1 .1 .0), cropped)
-    (sym (job-accepted p _ _ _ (none checked) (sym (picture .ensures .0) ∙ fine)))
+    let start = c .before .before .before .before .before .before .before .before in
+    let checked = c .before .before .before .before .before .before in
+    let picture = c .before .before .before .synthesise-picture in
+    let fine = c .if2 .left in
+    let made = picture .ensures .1 fine in
+    rw (made .0, made .1) (sym (job-accepted (start .args .p) _ _ _ (none checked) (sym (picture .ensures .0) ∙ fine)))
 
 pub synthesise-spec : {M : Type 1} → statement M
 synthesise-spec =
@@ -107,8 +91,6 @@ synthesise-spec =
     same-length
     same-length-2
     returns-2
-    crop-requires
-    zero-requires-3
     same-length-3
     same-length-4
     returns-3)

@@ -15,15 +15,10 @@ use Rattle.lifting.specs.Layout.{Agree, Placed, halvesOf}
 use Rattle.lifting.specs.Passes.{Picture, allNewFit, runAll}
 use Rattle.lifting.specs.Planes.{pictureOf}
 use Rattle.transform.specs.Synthesis.{synthesisPasses, interleave}
-use Rattle.transform.proofs.GeometryLaws.{placed, next-columns, rows-whole, double-stride, low-rows-most, low-columns-most}
-use Rattle.transform.proofs.LevelSteps.{level-fails, level-told, level-done}
+use Rattle.transform.proofs.GeometryLaws.{placed, next-columns, rows-whole, by-sizes, low-rows-most, low-columns-most}
+use Rattle.transform.proofs.LevelSteps.{level-fails, level-told, level-at}
 use Rattle.transform.proofs.levels.synthesise_level.Statement.{statement}
 use Rattle.transform.proofs.levels.synthesise_level.Tie as tie
-
--- a fact about four numbers, carried to equal ones
-carried : (P : ℕ → ℕ → ℕ → ℕ → Type 0) (a b s t a′ b′ s′ t′ : ℕ) → a ≡ a′ → b ≡ b′ → s ≡ s′ → t ≡ t′ → P a b s t → P a′ b′ s′ t′
-carried P a b s t a′ b′ s′ t′ ea eb es et h =
-    subst (λ (x : ℕ). P x b′ s′ t′) ea (subst (λ (x : ℕ). P a x s′ t′) eb (subst (λ (x : ℕ). P a b x t′) es (subst (λ (x : ℕ). P a b s x) et h)))
 
 next-frame-requires : tie.Need-next-frame-requires
 next-frame-requires c κs =
@@ -71,14 +66,13 @@ module _ (c : tie.After-next-frame) where
   woven = interleave (c .next-frame .result .«band_rows») (c .next-frame .result .«band_columns») (pictureOf (2 * F) start-work) coefficient-picture
 
   -- the same, with the sizes that the contract names
-  by-sizes : (P : ℕ → ℕ → ℕ → ℕ → Type 0) → P (c .next-frame .result .«band_rows») (c .next-frame .result .«band_columns») F (2 * F) →
+  by-extent : (P : ℕ → ℕ → ℕ → ℕ → Type 0) → P (c .next-frame .result .«band_rows») (c .next-frame .result .«band_columns») F (2 * F) →
       P (sizeAt (c .before .args .extent .«low_rows») (c .before .args .below)) (sizeAt (c .before .args .extent .«low_columns») (c .before .args .below))
       (c .before .args .extent .«padded_width» * 2 ^ (c .before .args .extent .depth - suc (c .before .args .below)))
       (c .before .args .extent .«padded_width» * 2 ^ (c .before .args .extent .depth - c .before .args .below))
-  by-sizes P holds =
+  by-extent P holds =
       let told = c .next-frame .ensures in
-      carried P _ _ _ _ _ _ _ _ (told .1) (told .2) (told .0)
-      (ap (λ (s : ℕ). 2 * s) (told .0) ∙ double-stride _ _ (c .before .pre .0) (c .before .args .below) (c .before .pre .3)) holds
+      by-sizes _ _ (c .before .pre .0) (c .before .args .below) (c .before .pre .3) (c .next-frame .result) (told .0) (told .1) (told .2) P holds
 
 returns : tie.Need-returns
 unfolding sizeAt halvesOf pictureOf
@@ -86,7 +80,7 @@ returns c =
     let framed = c .before .before .before .before .before .before .before .before in
     let frame = framed .next-frame .result in
     let sizes = placed-in framed (start-work framed) refl in (
-      by-sizes framed
+      by-extent framed
           (λ bh bw s s2. false ≡ allNewFit (2 * bh) (2 * bw) (synthesisPasses (filterOf (framed .before .args .wavelet))) (interleave bh bw (pictureOf s2 (start-work framed)) (coefficient-picture framed)))
           (level-fails (filterOf (framed .before .args .wavelet)) (frame .«band_rows») (frame .«band_columns») (sizes .rows-least) (sizes .columns-least) (woven framed)
           (pictureOf (frame .stride) (c .before .before .before .before .before .before .interleave-bands .last .0)) (c .before .before .before .before .before .before .interleave-bands .ensures .0)
@@ -112,7 +106,7 @@ returns-2 c =
     let rows-ok = c .before .filter-rows in
     let passed = sym (columns-ok .ensures .0) ∙ not-false _ (c .before .before .before .before .before .before .if1 .left) in
     let after = columns-ok .ensures .1 (not-false _ (c .before .before .before .before .before .before .if1 .left)) in (
-      by-sizes framed
+      by-extent framed
           (λ bh bw s s2. rows-ok .result ≡ allNewFit (2 * bh) (2 * bw) (synthesisPasses filter) (interleave bh bw (pictureOf s2 (start-work framed)) (coefficient-picture framed)))
           (rows-ok .ensures .0
           ∙ level-told filter (frame .«band_rows») (frame .«band_columns») (sizes .rows-least) (sizes .columns-least) (woven framed)
@@ -120,12 +114,13 @@ returns-2 c =
           (pictureOf (frame .stride) (columns-ok .last .0)) after
           (λ e. rows-ok .ensures .1 .1 (rows-ok .ensures .0 ∙ e))),
       λ e.
-          by-sizes framed
+          by-extent framed
           (λ bh bw s s2. Agree (2 * bh) (2 * bw) (pictureOf s (rows-ok .last .0)) (runAll (2 * bh) (2 * bw) (synthesisPasses filter) (interleave bh bw (pictureOf s2 (start-work framed)) (coefficient-picture framed))))
-          (level-done filter (frame .«band_rows») (frame .«band_columns») (sizes .rows-least) (sizes .columns-least) (woven framed)
+          (λ row x r i.
+          rows-ok .ensures .1 .0 e row x r i
+          ∙ level-at filter (frame .«band_rows») (frame .«band_columns») (sizes .rows-least) (sizes .columns-least) (woven framed)
           (pictureOf (frame .stride) (c .before .before .before .before .before .before .before .before .before .before .before .before .interleave-bands .last .0)) (c .before .before .before .before .before .before .before .before .before .before .before .before .interleave-bands .ensures .0) passed
-          (pictureOf (frame .stride) (columns-ok .last .0)) after
-          (pictureOf (frame .stride) (rows-ok .last .0)) (rows-ok .ensures .1 .0 e)),
+          (pictureOf (frame .stride) (columns-ok .last .0)) after row x r i),
     )
 
 pub synthesise-level-spec : {M : Type 1} → statement M
