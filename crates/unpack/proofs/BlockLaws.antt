@@ -15,11 +15,11 @@ use lib.ListN.{length}
 use Rattle.exp_golomb.specs.Bits.{takeBit}
 use Rattle.exp_golomb.specs.declared.bits.Bit.the-variants.{Taken, Absent}
 use Rattle.component.specs.declared.subbands.Subband.{Subband}
-use Rattle.unpack.specs.Reading.{Run, goesOn, stops, going, rectangle}
+use Rattle.coefficients.specs.Reading.{Run, goesOn, stops, going, rectangle}
+use Rattle.coefficients.proofs.Runs.{Stays, walk-keeps, rectangle-stays}
 use Rattle.unpack.specs.Codeblocks.{blockStart, onFlag, codeblockValues, codeblock, codeblockRow}
 use Rattle.unpack.specs.Bounds.{Placed}
 use Rattle.unpack.specs.declared.codeblocks.Codeblocks.{Codeblocks}
-use Rattle.unpack.proofs.Runs.{Stays, walk-keeps, rectangle-stays}
 
 -- a count of codeblocks over the columns or the rows of a subband
 module _ (size count : ℕ) where

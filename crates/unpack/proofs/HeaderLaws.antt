@@ -24,14 +24,15 @@ use Rattle.exp_golomb.proofs.Extent.{unsigned-same}
 use Rattle.exp_golomb.specs.Codes.{unsigned, statusOf}
 use Rattle.exp_golomb.specs.declared.codes.Number.{Number}
 use Rattle.exp_golomb.specs.declared.codes.Number.the-variants.{Read}
-use Rattle.unpack.specs.Reading.{Run, goesOn, stops, going, onNumber}
+use Rattle.coefficients.specs.Reading.{Run, goesOn, stops, going, onNumber}
+use Rattle.coefficients.specs.Bounds.{after}
+use Rattle.coefficients.specs.declared.progress.Progress.the-variants.{At, Refused}
+use Rattle.coefficients.proofs.ValueLaws.{number-refused}
 use Rattle.unpack.specs.Prediction.{prediction}
 use Rattle.unpack.specs.Subband.{bytesOf, goesOnAt, checkedData, subbandFrom, subbandOf, predictedSubband, subband}
 use Rattle.unpack.specs.declared.codeblocks.Codeblocks.{Codeblocks}
 use Rattle.unpack.proofs.PredictionLaws.{prediction-stays}
-use Rattle.unpack.specs.Bounds.{after, Checked, Placed, codeblocksOf}
-use Rattle.unpack.specs.declared.progress.Progress.the-variants.{At, Refused}
-use Rattle.unpack.proofs.ValueLaws.{number-refused}
+use Rattle.unpack.specs.Bounds.{Checked, Placed, codeblocksOf}
 
 -- the codeblocks of a subband lie in a plane of the right length
 pub codeblocks-placed : (p : Parameters) → Checked p → (k : ℕ) → k < subbandCount (p .depth) → (plane : List ℤ) → length plane ≡ areaOf p → Placed (codeblocksOf p k) plane

@@ -16,12 +16,12 @@ use Rattle.component.specs.Subbands.{subbandCount}
 use Rattle.component.specs.declared.parameters.Parameters.{Parameters}
 use Rattle.component.specs.declared.parameters.Job.the-variants.{Unpack}
 use Rattle.component.proofs.CheckLaws.{passed}
-use Rattle.unpack.specs.Reading.{Run, goesOn, stops}
+use Rattle.coefficients.specs.Reading.{Run, goesOn, stops}
+use Rattle.coefficients.specs.declared.progress.Progress.{Progress}
+use Rattle.coefficients.specs.declared.progress.Progress.the-variants.{At, Refused}
 use Rattle.unpack.specs.Subband.{subband}
 use Rattle.unpack.specs.Job.{Unpacked, endedWith, subbandsFrom, unpacked}
 use Rattle.unpack.specs.Bounds.{Checked}
-use Rattle.unpack.specs.declared.progress.Progress.{Progress}
-use Rattle.unpack.specs.declared.progress.Progress.the-variants.{At, Refused}
 
 module _ (p : Parameters) (bytes : List ℕ) (k start : ℕ) (plane : List ℤ) where
   -- after the last

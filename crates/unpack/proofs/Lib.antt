@@ -1,9 +1,4 @@
--- The laws of runs, of dequantising, of values, codeblocks, prediction and headers, for this crate and those above it; and the theorems beside
--- the job's contract.
-pub mod Runs
-pub mod QuantiserLaws
-pub mod ValueLaws
-pub mod BatchLaws
+-- The laws of codeblocks, prediction, headers and the job, for this crate and those above it; and the theorems beside the job's contract.
 pub mod BlockLaws
 pub mod CodeblockTiling
 pub mod PredictionLaws

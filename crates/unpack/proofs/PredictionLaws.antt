@@ -13,9 +13,9 @@ use lib.Signed.{mag}
 use Rattle.base.specs.Floor.{floorDiv}
 use Rattle.base.specs.Range.{fits32}
 use Rattle.base.proofs.Magnitudes.{mag-size, size-mag, size-add, size-floor}
-use Rattle.unpack.specs.Reading.{goesOn, stops, going, store}
+use Rattle.coefficients.specs.Reading.{goesOn, stops, going, store}
+use Rattle.coefficients.proofs.Runs.{Stays, walk-keeps}
 use Rattle.unpack.specs.Prediction.{meanOf, predictor, predicted, predictedRow, prediction}
-use Rattle.unpack.proofs.Runs.{Stays, walk-keeps}
 
 -- the sums of three values of a plane fit 64 bits, and their mean is small
 pub record SumsFit (left corner upper : ℤ) : Type 0 where

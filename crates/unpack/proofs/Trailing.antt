@@ -20,12 +20,12 @@ use Rattle.exp_golomb.specs.declared.codes.Number.{Number}
 use Rattle.exp_golomb.specs.declared.codes.Number.the-variants.{Read, Missing, TooLong}
 use Rattle.exp_golomb.proofs.Extent.{unsigned-reach}
 use Rattle.exp_golomb.proofs.Followed.{number-followed}
-use Rattle.unpack.specs.Reading.{Run, goesOn, going, onNumber}
+use Rattle.coefficients.specs.Reading.{Run, goesOn, going, onNumber}
+use Rattle.coefficients.specs.declared.progress.Progress.{Progress}
+use Rattle.coefficients.specs.declared.progress.Progress.the-variants.{At, Refused}
 use Rattle.unpack.specs.Prediction.{prediction}
 use Rattle.unpack.specs.Subband.{bytesOf, goesOnAt, subbandData, checkedData, subbandFrom, subbandOf, predictedSubband, subband}
 use Rattle.unpack.specs.Job.{Unpacked, endedWith, subbandsFrom, unpacked}
-use Rattle.unpack.specs.declared.progress.Progress.{Progress}
-use Rattle.unpack.specs.declared.progress.Progress.the-variants.{At, Refused}
 use Rattle.unpack.proofs.PredictionLaws.{prediction-stays}
 use Rattle.unpack.proofs.HeaderLaws.{no-data, header-read}
 use Rattle.unpack.proofs.JobLaws.{job-read}

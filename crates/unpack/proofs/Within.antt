@@ -25,16 +25,16 @@ use Rattle.component.specs.declared.subbands.Subband.{Subband}
 use Rattle.exp_golomb.specs.Bits.{takeBit}
 use Rattle.exp_golomb.specs.declared.bits.Bit.{Bit}
 use Rattle.exp_golomb.specs.declared.bits.Bit.the-variants.{Taken, Absent}
-use Rattle.unpack.specs.Reading.{Run, goesOn, stops, going, onNumber, store, value, row, rectangle}
+use Rattle.coefficients.specs.Reading.{Run, goesOn, stops, going, onNumber, store, value, row, rectangle}
+use Rattle.coefficients.specs.Bounds.{after}
+use Rattle.coefficients.specs.declared.progress.Progress.{Progress}
+use Rattle.coefficients.specs.declared.progress.Progress.the-variants.{At, Refused}
 use Rattle.unpack.specs.Codeblocks.{onFlag, codeblockValues, codeblock, codeblockRow, codeblocks}
 use Rattle.unpack.specs.Prediction.{predicted, predictedRow, prediction}
 use Rattle.unpack.specs.Subband.{bytesOf, goesOnAt, subbandData, checkedData, subbandFrom, predictedSubband, subband}
-use Rattle.unpack.specs.Bounds.{after}
 use Rattle.unpack.specs.Job.{Unpacked, endedWith, subbandsFrom, unpacked}
 use Rattle.unpack.proofs.HeaderLaws.{boundary}
 use Rattle.unpack.proofs.JobLaws.{status, job-refused, job-read}
-use Rattle.unpack.specs.declared.progress.Progress.{Progress}
-use Rattle.unpack.specs.declared.progress.Progress.the-variants.{At, Refused}
 
 -- A run goes on at a place that passes a test, or was refused with a number that is not 0.
 abbrev pub Sound : (ℕ → Type 0) → Progress → Type 0

@@ -1,5 +1,5 @@
--- The code's own forms: a quantiser with its factor and offset at hand, where codeblocks stand in the plane, and a run as the code has it.
--- No definition of the format rests on them.
+-- The code's own forms: where codeblocks stand in the plane, parameters that passed the checks, and the number of a refusal. No definition of
+-- the format rests on them.
 use Prim.Native.Nat.{ℕ, _+_, _*_, _≤_}
 use mathlib.Core.Path.{_≡_}
 use mathlib.Core.List.{List}
@@ -9,23 +9,10 @@ use mathlib.Core.Bool.{true}
 use Rattle.component.specs.Checks.{sizesInRange, depthInRange, codeblocksInRange}
 use Rattle.component.specs.Sizes.{paddedSize}
 use Rattle.component.specs.declared.parameters.Parameters.{Parameters}
-use Rattle.unpack.specs.Quantiser.{quantFactor, quantOffset}
-use Rattle.unpack.specs.Reading.{Run}
+use Rattle.coefficients.specs.declared.progress.Progress.{Progress}
+use Rattle.coefficients.specs.declared.progress.Progress.the-variants.{At, Refused}
 use Rattle.unpack.specs.Subband.{subbandOf}
-use Rattle.unpack.specs.declared.progress.Progress.{Progress}
-use Rattle.unpack.specs.declared.progress.Progress.the-variants.{At, Refused}
-use Rattle.unpack.specs.declared.quantiser.Quantiser.{Quantiser}
 use Rattle.unpack.specs.declared.codeblocks.Codeblocks.{Codeblocks}
-
--- What a call left: how far it came, and the plane.
-abbrev pub after : Progress → List ℤ → Run
-after progress plane = record { progress = progress; plane = plane }
-
--- The factor and offset are those of the index, which is in range.
-pub record Prepared (q : Quantiser) : Type 0 where
-  pub in-range : q .index ≤ 115
-  pub factor-is : q .factor ≡ quantFactor (q .index)
-  pub offset-is : q .offset ≡ quantOffset (q .index)
 
 -- The subband lies in a plane of rows a stride apart, and has codeblocks.
 pub record Placed (c : Codeblocks) (plane : List ℤ) : Type 0 where

@@ -9,7 +9,7 @@ use Rattle.component.specs.declared.subbands.Subband.{Subband}
 use Rattle.exp_golomb.specs.Bits.{takeBit}
 use Rattle.exp_golomb.specs.declared.bits.Bit.{Bit}
 use Rattle.exp_golomb.specs.declared.bits.Bit.the-variants.{Taken, Absent}
-use Rattle.unpack.specs.Reading.{Run, goesOn, stops, going, rectangle}
+use Rattle.coefficients.specs.Reading.{Run, goesOn, stops, going, rectangle}
 
 -- "block x of c across covers columns floor(bw·x/c) up to but not including floor(bw·(x+1)/c); rows likewise"
 unfoldable pub blockStart : ℕ → ℕ → ℕ → ℕ

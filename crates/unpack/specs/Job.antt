@@ -11,10 +11,10 @@ use Rattle.component.specs.Subbands.{subbandCount}
 use Rattle.component.specs.declared.parameters.Parameters.{Parameters}
 use Rattle.component.specs.declared.parameters.Answer.{Answer}
 use Rattle.component.specs.declared.parameters.Job.the-variants.{Unpack}
-use Rattle.unpack.specs.Reading.{goesOn}
+use Rattle.coefficients.specs.Reading.{goesOn}
+use Rattle.coefficients.specs.declared.progress.Progress.{Progress}
+use Rattle.coefficients.specs.declared.progress.Progress.the-variants.{At, Refused}
 use Rattle.unpack.specs.Subband.{subband}
-use Rattle.unpack.specs.declared.progress.Progress.{Progress}
-use Rattle.unpack.specs.declared.progress.Progress.the-variants.{At, Refused}
 
 -- What a call of unpack gives: its answer, and what the coefficient plane holds after it.
 pub record Unpacked : Type 0 where

@@ -5,7 +5,7 @@ use lib.IntN.{ℤ, pos, _+ℤ_}
 use lib.ListN.{getD}
 use Rattle.base.specs.Floor.{floorDiv}
 use Rattle.base.specs.Walk.{walk}
-use Rattle.unpack.specs.Reading.{Run, going, store}
+use Rattle.coefficients.specs.Reading.{Run, going, store}
 
 -- "floor((left + upper left + upper + 1)/3)"
 unfoldable pub meanOf : ℤ → ℤ → ℤ → ℤ

@@ -11,7 +11,7 @@ use Rattle.component.specs.Subbands.{subbandAt}
 use Rattle.component.specs.declared.parameters.Parameters.{Parameters}
 use Rattle.component.specs.declared.subbands.Subband.{Subband}
 use Rattle.exp_golomb.specs.Codes.{unsigned}
-use Rattle.unpack.specs.Reading.{Run, goesOn, stops, going, onNumber}
+use Rattle.coefficients.specs.Reading.{Run, goesOn, stops, going, onNumber}
 use Rattle.unpack.specs.Codeblocks.{codeblocks}
 use Rattle.unpack.specs.Prediction.{prediction}
 

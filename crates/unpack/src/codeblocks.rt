@@ -2,12 +2,13 @@
 ghost use mathlib.Core.Path.{_≡_};
 ghost use Prim.Native.Nat.{_+_, _*_, _≤_, _<_};
 ghost use lib.ListN.{length};
-ghost use Rattle.unpack.specs.Reading.{goesOn};
+ghost use Rattle.coefficients.specs.Reading.{goesOn};
+ghost use Rattle.coefficients.specs.Bounds.{after, Prepared};
 ghost use Rattle.unpack.specs.Codeblocks.{blockStart, codeblockValues, codeblock, codeblockRow, codeblocks};
-ghost use Rattle.unpack.specs.Bounds.{after, Prepared, Placed};
-use crate::progress::Progress;
-use crate::quantiser::Quantiser;
-use crate::values::read_rectangle;
+ghost use Rattle.unpack.specs.Bounds.{Placed};
+use coefficients::progress::Progress;
+use coefficients::quantiser::Quantiser;
+use coefficients::values::read_rectangle;
 use component::subbands::Subband;
 use exp_golomb::bits::Bit;
 use exp_golomb::bits::take_bit;

@@ -1,11 +1,7 @@
 // Document 01, "One subband": the unpack job, from bytes to coefficients.
-pub mod batches;
 pub mod codeblocks;
 pub mod prediction;
-pub mod progress;
-pub mod quantiser;
 pub mod subbands;
-pub mod values;
 
 ghost use mathlib.Core.Path.{_≡_};
 ghost use lib.ListN.{length};
@@ -13,9 +9,9 @@ ghost use Rattle.component.specs.Checks.{areaOf};
 ghost use Rattle.component.specs.Subbands.{subbandCount};
 ghost use Rattle.unpack.specs.Job.{outcome, subbandsFrom, unpacked};
 ghost use Rattle.unpack.specs.Bounds.{Checked, statusOf};
-use crate::progress::Progress;
 use crate::subbands::read_subband;
 use base::plane::zero;
+use coefficients::progress::Progress;
 use component::checks::refusal;
 use component::parameters::Answer;
 use component::parameters::Job;

@@ -3,11 +3,11 @@ ghost use mathlib.Core.Path.{_≡_};
 ghost use Prim.Native.Nat.{_+_, _*_, _^_, _≤_, _<_};
 ghost use lib.IntN.{natAbs};
 ghost use lib.ListN.{length};
-ghost use Rattle.unpack.specs.Reading.{goesOn};
+ghost use Rattle.coefficients.specs.Reading.{goesOn};
+ghost use Rattle.coefficients.specs.Bounds.{after};
 ghost use Rattle.unpack.specs.Prediction.{meanOf, predictor, predicted, predictedRow, prediction};
-ghost use Rattle.unpack.specs.Bounds.{after};
-use crate::progress::Progress;
 use base::signed;
+use coefficients::progress::Progress;
 
 // Predicts the values of a band at the top left of a plane. Reading goes on where it was.
 pub fn predict(plane: &mut [i32], stride: usize, width: usize, height: usize, at: usize) -> Progress

@@ -11,8 +11,8 @@ use Rattle.component.specs.Subbands.{subbandLevel, detailOf, orientation, leftO
 use Rattle.component.specs.Checks.{sizesInRange, depthInRange, waveletInRange, countsInRange, codeblocksInRange, areaOf, planesFit, refusalOf}
 use Rattle.exp_golomb.specs.Bits.{bitAt, present, takeBit}
 use Rattle.exp_golomb.specs.Codes.{onBit, codeFrom, unsigned, withSignBit, signed}
-use Rattle.unpack.specs.Quantiser.{factorOf, quantFactor, quantOffset, scaled, dequantise}
-use Rattle.unpack.specs.Reading.{going, onNumber, store, value, row, rectangle}
+use Rattle.coefficients.specs.Quantiser.{factorOf, quantFactor, quantOffset, scaled, dequantise}
+use Rattle.coefficients.specs.Reading.{going, onNumber, store, value, row, rectangle}
 use Rattle.unpack.specs.Codeblocks.{blockStart, onFlag, codeblockValues, codeblock, codeblockRow, codeblocks}
 use Rattle.unpack.specs.Prediction.{meanOf, predictor, predicted, predictedRow, prediction}
 use Rattle.unpack.specs.Subband.{bytesOf, goesOnAt, subbandData, checkedData, subbandFrom, predictedSubband, subband}

@@ -11,8 +11,8 @@ use Rattle.lifting.specs.Filters.{filter0, filter1, filter2, filter3, filter4, 
 use Rattle.lifting.specs.Lifting.{changesEven, adds, clamp, readPlace, tapSum, rounding, update, changes, lift}
 use Rattle.lifting.specs.Passes.{run, runAll}
 use Rattle.lifting.specs.Planes.{pictureOf, raster}
+use Rattle.coefficients.specs.Quantiser.{factorOf, quantFactor, quantOffset, scaled, dequantise}
 use Rattle.unpack.specs.Prediction.{meanOf}
-use Rattle.unpack.specs.Quantiser.{factorOf, quantFactor, quantOffset, scaled, dequantise}
 use Rattle.worked_examples.specs.Examples.{Row, readFrom, table}
 
 -- In every row the numbers computed are the numbers owed.

@@ -14,8 +14,8 @@ use Rattle.exp_golomb.specs.declared.codes.Number.the-variants.{Read, Missing, 
 use Rattle.lifting.specs.Filters.{filterOf}
 use Rattle.lifting.specs.Passes.{Pass, rows, halve, runAll}
 use Rattle.lifting.specs.Planes.{pictureOf, raster}
+use Rattle.coefficients.specs.Quantiser.{quantFactor, dequantise}
 use Rattle.unpack.specs.Prediction.{meanOf}
-use Rattle.unpack.specs.Quantiser.{quantFactor, dequantise}
 
 pub record Row : Type 0 where
   pub computed : List ℤ

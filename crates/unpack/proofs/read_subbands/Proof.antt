@@ -7,9 +7,9 @@ use borrow.Author.Needs.{needs}
 use lib.ListN.{length}
 use denote.Ref.{now}
 use Rattle.component.proofs.CheckLaws.{depth-most}
+use Rattle.coefficients.specs.Bounds.{after}
 use Rattle.unpack.specs.Subband.{subband}
 use Rattle.unpack.specs.Job.{Unpacked, outcome, subbandsFrom}
-use Rattle.unpack.specs.Bounds.{after}
 use Rattle.unpack.proofs.JobLaws.{subbands-end, subbands-next, subbands-stop}
 use Rattle.unpack.proofs.Within.{next-inside}
 use Rattle.unpack.proofs.read_subbands.Statement.{statement}

@@ -6,9 +6,9 @@ use native.Mathlib.Omega.{arith}
 use borrow.Author.Needs.{needs}
 use lib.ListN.{length}
 use Rattle.base.specs.Walk.{walk}
-use Rattle.unpack.specs.Reading.{goesOn}
+use Rattle.coefficients.specs.Reading.{goesOn}
+use Rattle.coefficients.proofs.Runs.{run-starts, run-goes-on, run-stops}
 use Rattle.unpack.specs.Codeblocks.{codeblock, codeblockRow}
-use Rattle.unpack.proofs.Runs.{run-starts, run-goes-on, run-stops}
 use Rattle.unpack.proofs.BlockLaws.{placed-same, block-stays}
 use Rattle.unpack.proofs.codeblocks.read_codeblock_row.Statement.{statement}
 use Rattle.unpack.proofs.codeblocks.read_codeblock_row.Tie as tie

@@ -7,9 +7,9 @@ use borrow.Author.Needs.{needs}
 use lib.ListN.{length}
 use Rattle.base.specs.Walk.{walk}
 use Rattle.base.proofs.Grids.{row-end}
-use Rattle.unpack.specs.Reading.{goesOn}
+use Rattle.coefficients.specs.Reading.{goesOn}
+use Rattle.coefficients.proofs.Runs.{run-starts, run-goes-on, run-stops}
 use Rattle.unpack.specs.Prediction.{predictedRow, prediction}
-use Rattle.unpack.proofs.Runs.{run-starts, run-goes-on, run-stops}
 use Rattle.unpack.proofs.PredictionLaws.{predicted-row-stays}
 use Rattle.unpack.proofs.prediction.predict.Statement.{statement}
 use Rattle.unpack.proofs.prediction.predict.Tie as tie

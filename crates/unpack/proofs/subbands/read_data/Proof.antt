@@ -6,10 +6,11 @@ use native.Mathlib.Omega.{arith}
 use borrow.Author.Needs.{needs}
 use lib.ListN.{length, take, drop}
 use denote.Ref.{now}
-use Rattle.unpack.specs.Reading.{Run, goesOn}
+use Rattle.coefficients.specs.Reading.{Run, goesOn}
+use Rattle.coefficients.specs.Bounds.{after}
 use Rattle.unpack.specs.Codeblocks.{codeblocks}
 use Rattle.unpack.specs.Subband.{subbandData}
-use Rattle.unpack.specs.Bounds.{after, codeblocksOf, Placed}
+use Rattle.unpack.specs.Bounds.{codeblocksOf, Placed}
 use Rattle.unpack.specs.declared.codeblocks.Codeblocks.{Codeblocks}
 use Rattle.unpack.proofs.HeaderLaws.{codeblocks-placed, data-ends, data-stops}
 use Rattle.unpack.proofs.subbands.read_data.Statement.{statement}

@@ -3,9 +3,10 @@
 use mathlib.Core.Path.{sym, ap, _∙_, subst}
 use borrow.Author.Needs.{needs}
 use borrow.Author.Tests.{not-true, not-false}
-use Rattle.unpack.specs.Reading.{Run, goesOn}
+use Rattle.coefficients.specs.Reading.{Run, goesOn}
+use Rattle.coefficients.specs.Bounds.{after}
 use Rattle.unpack.specs.Prediction.{prediction}
-use Rattle.unpack.specs.Bounds.{after, codeblocksOf, Placed}
+use Rattle.unpack.specs.Bounds.{codeblocksOf, Placed}
 use Rattle.unpack.specs.declared.codeblocks.Codeblocks.{Codeblocks}
 use Rattle.unpack.proofs.HeaderLaws.{codeblocks-placed, predicted-inside, stopped-stays, not-first, not-intra, first-intra}
 use Rattle.unpack.proofs.subbands.read_subband.Statement.{statement}

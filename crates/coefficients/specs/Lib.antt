@@ -1,0 +1,4 @@
+pub mod Quantiser
+pub mod Reading
+pub mod Bounds
+pub mod Batches
