@@ -1,6 +1,7 @@
 -- The laws of a row that stands as two halves: what stands where, and what a step makes of it.
 -- Assumes nothing.
 use mathlib.Core.Path.{_≡_, sym, ap, _∙_, subst}
+use mathlib.Core.Logic.{_≢_}
 use mathlib.Core.Bool.{Bool, true, false, not, cond, _&&_, _||_, and-true}
 use mathlib.Core.List.{List}
 use Prim.Native.Nat.{ℕ, suc, _+_, _-_, _*_, _/_, _%_, _^_, _≤_, _<_, min}
@@ -15,7 +16,7 @@ use Rattle.base.specs.Every.{allBelow}
 use Rattle.base.specs.Fill.{fill}
 use Rattle.base.specs.Range.{fits32}
 use Rattle.base.proofs.Everys.{all-at, all-same}
-use Rattle.base.proofs.Fills.{getD-fill-in}
+use Rattle.base.proofs.Fills.{length-fill, getD-fill-in, getD-fill-out}
 use Rattle.lines.specs.Buffers.{Within, heldEntry, woven}
 use Rattle.lines.specs.Sums.{sumBelow, tapAt, changed}
 use Rattle.lines.proofs.BufferLaws.{woven-even, woven-odd}
@@ -58,28 +59,25 @@ by-parity P n even odd x inside =
           rw place (odd (x / 2) (omega arith))
     ]
 
--- The buffer of the half that a step changes, and that of the half that it reads, woven.
-abbrev pub wovenBy : Bool → List ℤ → List ℤ → Line
-wovenBy even target source = cond even (woven target source) (woven source target)
+-- The base of the half of the even places in the line buffer, and of that of the odd ones.
+abbrev pub baseOf : Bool → ℕ
+baseOf even = cond even 0 2056
 
--- at a place that the step changes, and at one that it reads
-woven-target : (even : Bool) (target source : List ℤ) (k : ℕ) → wovenBy even target source (targetRow even k) ≡ getD target (4 + k) (pos 0)
-unfolding targetRow
-woven-target true target source k = rw (add-zero (2 * k)) (woven-even target source k)
-woven-target false target source k = woven-odd source target k
+-- a woven row at a place of one half, and at one that a step reads
+module _ (halves : List ℤ) where
+  woven-target : (even : Bool) (k : ℕ) → woven halves (targetRow even k) ≡ getD halves (baseOf even + 4 + k) (pos 0)
+  unfolding targetRow
+  woven-target true k = rw (add-zero (2 * k)) (woven-even halves k)
+  woven-target false k = woven-odd halves k
 
-woven-source :
-    (even : Bool) (target source : List ℤ) (b s : ℕ)
-    → wovenBy even target source (sourceRow even b s) ≡ getD source (heldEntry b s) (pos 0)
-unfolding sourceRow heldEntry
-woven-source true target source b s = woven-odd target source (min (s - 4) (b - 1))
-woven-source false target source b s = rw (add-zero (2 * min (s - 4) (b - 1))) (woven-even source target (min (s - 4) (b - 1)))
-
--- at a place that it keeps
-woven-kept : (even : Bool) (target source : List ℤ) (k : ℕ) → wovenBy even target source (targetRow (not even) k) ≡ getD source (4 + k) (pos 0)
-unfolding targetRow
-woven-kept true target source k = woven-odd target source k
-woven-kept false target source k = rw (add-zero (2 * k)) (woven-even source target k)
+  woven-source : (even : Bool) (b s : ℕ) → woven halves (sourceRow even b s) ≡ getD halves (baseOf (not even) + heldEntry b s) (pos 0)
+  unfolding sourceRow heldEntry
+  woven-source true b s =
+      let place : 2056 + (4 + min (s - 4) (b - 1)) ≡ 2060 + min (s - 4) (b - 1) = omega arith in
+      rw place (woven-odd halves (min (s - 4) (b - 1)))
+  woven-source false b s =
+      let place : 0 + (4 + min (s - 4) (b - 1)) ≡ 4 + min (s - 4) (b - 1) = omega arith in
+      rw (place, add-zero (2 * min (s - 4) (b - 1))) (woven-even halves (min (s - 4) (b - 1)))
 
 -- lines that agree at the places that a step changes, and at those that it keeps, agree
 by-targets :
@@ -116,14 +114,15 @@ unfolding targetRow
 new-target true adds fit k = rw (changes-even true adds k, changes-odd true adds k, add-zero (2 * k)) (and-true (fit (2 * k)))
 new-target false adds fit k = rw (changes-even false adds k, changes-odd false adds k)
 
--- What tap t of a step reads for entry k of the half that the step changes, and the number that it gives to that entry.
-abbrev pub readEntry : LiftingStep → ℕ → List ℤ → ℕ → ℕ → ℤ
-readEntry r b source k t = getD source (heldEntry b (r .lead + t + k)) (pos 0)
+-- What tap t of a step reads for entry k of the half that the step changes, and the number that it gives to that entry: the bases of that half
+-- and of the one that is read.
+abbrev pub readEntry : LiftingStep → ℕ → ℕ → List ℤ → ℕ → ℕ → ℤ
+readEntry r b source halves k t = getD halves (source + heldEntry b (r .lead + t + k)) (pos 0)
 
-abbrev pub newEntry : LiftingStep → ℕ → List ℤ → List ℤ → ℕ → ℤ
-newEntry r b target source k =
-    changed (r .adds) (r .scale) (getD target (4 + k) (pos 0))
-    (rounding (r .scale) +ℤ sumBelow (λ t. getD (r .taps) t (pos 0) *ℤ readEntry r b source k t) (r .count))
+abbrev pub newEntry : LiftingStep → ℕ → ℕ → ℕ → List ℤ → ℕ → ℤ
+newEntry r b target source halves k =
+    changed (r .adds) (r .scale) (getD halves (target + 4 + k) (pos 0))
+    (rounding (r .scale) +ℤ sumBelow (λ t. getD (r .taps) t (pos 0) *ℤ readEntry r b source halves k t) (r .count))
 
 module _ (r : LiftingStep) (b : ℕ) where
   -- the new numbers of a step, pair by pair
@@ -133,46 +132,47 @@ module _ (r : LiftingStep) (b : ℕ) where
       all-pairs (λ x. not (changes (typeOf (r .even) (r .adds)) x) || fits32 (A x)) b
       ∙ all-same _ (λ k. fits32 (A (targetRow (r .even) k))) b (λ k inside. new-target (r .even) (r .adds) (λ x. fits32 (A x)) k)
 
-  module _ (target source : List ℤ) where
+  module _ (halves : List ℤ) where
     -- what a tap reads for entry k
-    read-entry : (k t : ℕ) → wovenBy (r .even) target source (sourceRow (r .even) b (k + r .lead + t)) ≡ readEntry r b source k t
+    read-entry : (k t : ℕ) → woven halves (sourceRow (r .even) b (k + r .lead + t)) ≡ readEntry r b (baseOf (not (r .even))) halves k t
     read-entry k t =
         let order : k + r .lead + t ≡ r .lead + t + k = omega arith in
-        rw order (woven-source (r .even) target source b (r .lead + t + k))
+        rw order (woven-source halves (r .even) b (r .lead + t + k))
 
     -- what the step makes of entry k of the half that it changes
-    lift-entry : (k : ℕ) → lift (stepOf r) (2 * b) (wovenBy (r .even) target source) (targetRow (r .even) k) ≡ newEntry r b target source k
+    lift-entry : (k : ℕ) → lift (stepOf r) (2 * b) (woven halves) (targetRow (r .even) k) ≡ newEntry r b (baseOf (r .even)) (baseOf (not (r .even))) halves k
     lift-entry k =
-        lift-at-target r b k (wovenBy (r .even) target source)
-        ∙ rw (woven-target (r .even) target source k, sum-same _ _ (r .count) (λ t h. ap (λ (z : ℤ). getD (r .taps) t (pos 0) *ℤ z) (read-entry k t)))
+        lift-at-target r b k (woven halves)
+        ∙ rw (woven-target halves (r .even) k, sum-same _ _ (r .count) (λ t h. ap (λ (z : ℤ). getD (r .taps) t (pos 0) *ℤ z) (read-entry k t)))
 
     -- the new numbers of the step, entry by entry
     pub halves-new :
         (even : Bool) → r .even ≡ even
-        → newFit 1 (2 * b) (rows (stepOf r)) (run 1 (2 * b) (rows (stepOf r)) (λ row. wovenBy even target source))
-        ≡ allBelow b (λ k. fits32 (newEntry r b target source k))
+        → newFit 1 (2 * b) (rows (stepOf r)) (run 1 (2 * b) (rows (stepOf r)) (λ row. woven halves))
+        ≡ allBelow b (λ k. fits32 (newEntry r b (baseOf even) (baseOf (not even)) halves k))
     unfolding run
     halves-new even same =
         rw (← same)
-        (new-pairs (lift (stepOf r) (2 * b) (wovenBy (r .even) target source))
-        ∙ all-same _ (λ k. fits32 (newEntry r b target source k)) b (λ k inside. rw (lift-entry k)))
+        (new-pairs (lift (stepOf r) (2 * b) (woven halves))
+        ∙ all-same _ (λ k. fits32 (newEntry r b (baseOf (r .even)) (baseOf (not (r .even))) halves k)) b (λ k inside. rw (lift-entry k)))
 
     -- the step done: the half that it changes has the new numbers, and the other is kept
     pub halves-lifted :
-        (even : Bool) → r .even ≡ even → (target' source' : List ℤ)
-        → ((k : ℕ) → k < b → getD target' (4 + k) (pos 0) ≡ newEntry r b target source k)
-        → ((k : ℕ) → k < b → getD source' (4 + k) (pos 0) ≡ getD source (4 + k) (pos 0))
-        → (x : ℕ) → x < 2 * b → wovenBy even target' source' x ≡ lift (stepOf r) (2 * b) (wovenBy even target source) x
+        (even : Bool) → r .even ≡ even → (halves' : List ℤ)
+        → ((k : ℕ) → k < b → getD halves' (baseOf even + 4 + k) (pos 0) ≡ newEntry r b (baseOf even) (baseOf (not even)) halves k)
+        → ((k : ℕ) → k < b → getD halves' (baseOf (not even) + 4 + k) (pos 0) ≡ getD halves (baseOf (not even) + 4 + k) (pos 0))
+        → (x : ℕ) → x < 2 * b → woven halves' x ≡ lift (stepOf r) (2 * b) (woven halves) x
     unfolding stepOf
-    halves-lifted even same target' source' new kept =
+    halves-lifted even same halves' =
         rw (← same)
-        (by-targets (r .even) b (wovenBy (r .even) target' source') (lift (stepOf r) (2 * b) (wovenBy (r .even) target source))
-        (λ k inside. woven-target (r .even) target' source' k ∙ new k inside ∙ sym (lift-entry k))
+        (λ new kept.
+        by-targets (r .even) b (woven halves') (lift (stepOf r) (2 * b) (woven halves))
+        (λ k inside. woven-target halves' (r .even) k ∙ new k inside ∙ sym (lift-entry k))
         (λ k inside.
-        woven-kept (r .even) target' source' k
+        woven-target halves' (not (r .even)) k
         ∙ kept k inside
-        ∙ sym (woven-kept (r .even) target source k)
-        ∙ sym (lift-keeps (stepOf r) (2 * b) (wovenBy (r .even) target source) (targetRow (not (r .even)) k) (changes-kept (r .even) (r .adds) k))))
+        ∙ sym (woven-target halves (not (r .even)) k)
+        ∙ sym (lift-keeps (stepOf r) (2 * b) (woven halves) (targetRow (not (r .even)) k) (changes-kept (r .even) (r .adds) k))))
 
 -- the place of an even column in a row that stands as two halves, and that of an odd one
 half-even : (b k : ℕ) → halfPlace b (2 * k) ≡ k
@@ -183,76 +183,101 @@ half-odd : (b k : ℕ) → halfPlace b (2 * k + 1) ≡ b + k
 unfolding halfPlace
 half-odd b k = rw (odd-test k, odd-half k)
 
--- the halves copied to the buffers are the row
-pub halves-copied :
-    (b place : ℕ) (work low high low' high' : List ℤ) → 4 + b ≤ length low → 4 + b ≤ length high
-    → low' ≡ fill low 4 b (λ k. getD work (place + k) (pos 0)) → high' ≡ fill high 4 b (λ k. getD work (place + b + k) (pos 0))
-    → (x : ℕ) → x < 2 * b → woven low' high' x ≡ getD work (place + halfPlace b x) (pos 0)
-halves-copied b place work low high low' high' lows highs even odd =
-    by-parity (λ x. woven low' high' x ≡ getD work (place + halfPlace b x) (pos 0)) b
-    (λ k inside.
-    woven-even low' high' k
-    ∙ rw (even, half-even b k) (getD-fill-in low 4 (λ k. getD work (place + k) (pos 0)) b k (pos 0) inside (omega arith)))
-    (λ k inside.
-    let order : place + b + k ≡ place + (b + k) = omega arith in
-    woven-odd low' high' k
-    ∙ rw (odd, half-odd b k, ← order) (getD-fill-in high 4 (λ k. getD work (place + b + k) (pos 0)) b k (pos 0) inside (omega arith)))
+-- The halves of a row copied to the line buffer, one after the other.
+module _
+    (b place : ℕ) (work came low halves : List ℤ) (few : b ≤ 2048) (room : 2060 + b ≤ length came)
+    (first : low ≡ fill came 4 b (λ k. getD work (place + k) (pos 0)))
+    (second : halves ≡ fill low 2060 b (λ k. getD work (place + b + k) (pos 0)))
+  where
+    low-copied : (k : ℕ) → k < b → getD halves (4 + k) (pos 0) ≡ getD work (place + k) (pos 0)
+    low-copied k inside =
+        rw (second, getD-fill-out low 2060 (λ k. getD work (place + b + k) (pos 0)) b (4 + k) (pos 0) (λ j below. omega arith), first)
+        (getD-fill-in came 4 (λ k. getD work (place + k) (pos 0)) b k (pos 0) inside (omega arith))
 
--- a half copied to its buffer is within the bound that was measured
-pub half-measured :
-    (b place m : ℕ) (work line line' : List ℤ) → 4 + b ≤ length line → line' ≡ fill line 4 b (λ k. getD work (place + k) (pos 0))
-    → Within work place b (suc m) → Within line' 4 b (m + 1)
-half-measured b place m work line line' room copied within k inside =
-    rw (copied, getD-fill-in line 4 (λ k. getD work (place + k) (pos 0)) b k (pos 0) inside (omega arith)) (omega (arith, within k inside))
+    high-copied : (k : ℕ) → k < b → getD halves (2060 + k) (pos 0) ≡ getD work (place + b + k) (pos 0)
+    high-copied k inside =
+        rw second
+        (getD-fill-in low 2060 (λ k. getD work (place + b + k) (pos 0)) b k (pos 0) inside
+        (rw (first, length-fill came 4 (λ k. getD work (place + k) (pos 0)) b) (omega arith)))
+
+    -- they are the row
+    pub halves-copied : (x : ℕ) → x < 2 * b → woven halves x ≡ getD work (place + halfPlace b x) (pos 0)
+    halves-copied =
+        by-parity (λ x. woven halves x ≡ getD work (place + halfPlace b x) (pos 0)) b
+        (λ k inside. woven-even halves k ∙ rw (half-even b k) (low-copied k inside))
+        (λ k inside.
+        let order : place + b + k ≡ place + (b + k) = omega arith in
+        woven-odd halves k ∙ rw (half-odd b k, ← order) (high-copied k inside))
+
+    -- and within the bounds that were measured
+    pub halves-measured :
+        (even odd : ℕ) → Within work place b (suc even) → Within work (place + b) b (suc odd)
+        → Within halves 4 b (even + 1) × Within halves 2060 b (odd + 1)
+    halves-measured even odd lows highs =
+        (λ k inside. rw (low-copied k inside) (omega (arith, lows k inside)), λ k inside. rw (high-copied k inside) (omega (arith, highs k inside)))
 
 -- the place of a column lies in its row
 pub half-inside : (b x : ℕ) → x < 2 * b → halfPlace b x < 2 * b
 half-inside b = by-parity (λ x. halfPlace b x < 2 * b) b (λ k h. rw (half-even b k) (omega arith)) (λ k h. rw (half-odd b k) (omega arith))
 
--- the entries of a half stay where its ends are repeated
-half-kept :
-    (b : ℕ) (source extended : List ℤ)
-    → ((s : ℕ) → s < b + 8 → getD extended s (pos 0) ≡ getD source (heldEntry b s) (pos 0))
-    → (k : ℕ) → k < b → getD extended (4 + k) (pos 0) ≡ getD source (4 + k) (pos 0)
-unfolding heldEntry
-half-kept b source extended ends k inside =
-    let here : 4 + min (4 + k - 4) (b - 1) ≡ 4 + k = omega arith in
-    ends (4 + k) (omega arith) ∙ rw here
-
 -- What lifting one half by the other leaves: whether the new entries fit, and where they do the half with them, the other half as it was, and
 -- the bound that the new entries are within.
-abbrev pub HalfLifted : LiftingStep → ℕ → Reach → List ℤ → List ℤ → Bool → List ℤ → List ℤ → Type 0
-HalfLifted r b reach target source answer target' source' =
-    (answer ≡ allBelow b (λ k. fits32 (newEntry r b target source k)))
-    × ((answer ≡ true → (k : ℕ) → k < b → getD target' (4 + k) (pos 0) ≡ newEntry r b target source k)
-    × (((k : ℕ) → k < b → getD source' (4 + k) (pos 0) ≡ getD source (4 + k) (pos 0)) × (answer ≡ true → Within target' 4 b (targetReach r (reachAfter r reach)))))
+abbrev pub HalfLifted : LiftingStep → ℕ → Reach → ℕ → ℕ → List ℤ → Bool → List ℤ → Type 0
+HalfLifted r b reach target source halves answer halves' =
+    (answer ≡ allBelow b (λ k. fits32 (newEntry r b target source halves k)))
+    × ((answer ≡ true → (k : ℕ) → k < b → getD halves' (target + 4 + k) (pos 0) ≡ newEntry r b target source halves k)
+    × ((answer ≡ true → (k : ℕ) → k < b → getD halves' (source + 4 + k) (pos 0) ≡ getD halves (source + 4 + k) (pos 0))
+    × (answer ≡ true → Within halves' (target + 4) b (targetReach r (reachAfter r reach)))))
 
--- What is known before the sums of a step are made: the half that is read has its ends repeated, the taps' places start at the lead, and both
--- halves are within their bounds.
-pub record HalfRead (r : LiftingStep) (b : ℕ) (reach : Reach) (target source extended : List ℤ) (places : List ℕ) : Type 0 where
+-- What is known before the sums of a step are made: the half that is read has its ends repeated and the other stands elsewhere, the taps' places
+-- start at the lead, and both halves are within their bounds.
+pub record HalfRead (r : LiftingStep) (b : ℕ) (reach : Reach) (target source : ℕ) (halves extended : List ℤ) (places : List ℕ) : Type 0 where
   pub sane : Sane r
   pub some : 1 ≤ b
-  pub ends : (s : ℕ) → s < b + 8 → getD extended s (pos 0) ≡ getD source (heldEntry b s) (pos 0)
-  pub placed : (t : ℕ) → t < 8 → getD places t 0 ≡ r .lead + t
-  pub targets : Within target 4 b (targetReach r reach)
-  pub sources : Within source 4 b (sourceReach r reach)
+  pub apart : (i j : ℕ) → i < b + 8 → j < b + 8 → target + i ≢ source + j
+  pub ends : (s : ℕ) → s < b + 8 → getD extended (source + s) (pos 0) ≡ getD halves (source + heldEntry b s) (pos 0)
+  pub rest : (p : ℕ) → ((s : ℕ) → s < b + 8 → p ≢ source + s) → getD extended p (pos 0) ≡ getD halves p (pos 0)
+  pub placed : (t : ℕ) → t < 8 → getD places t 0 ≡ source + r .lead + t
+  pub targets : Within halves (target + 4) b (targetReach r reach)
+  pub sources : Within halves (source + 4) b (sourceReach r reach)
 
 module _
-    {r : LiftingStep} {b : ℕ} {reach : Reach} {target source extended : List ℤ} {places : List ℕ} (read : HalfRead r b reach target source extended places)
+    {r : LiftingStep} {b : ℕ} {reach : Reach} {target source : ℕ} {halves extended : List ℤ} {places : List ℕ}
+    (read : HalfRead r b reach target source halves extended places)
   where
-    -- what a tap adds, and the bound of what it reads
-    tap-same : (k t : ℕ) → k < b → t < r .count → tapAt (r .taps) places extended k t ≡ getD (r .taps) t (pos 0) *ℤ readEntry r b source k t
-    unfolding tapAt
-    tap-same k t inside h =
-        rw (read .placed t (omega (arith, read .sane .few-taps)), read .ends (r .lead + t + k) (omega (arith, read .sane .near)))
+    -- the entries of both halves stay where the ends of one are repeated
+    target-kept : (k : ℕ) → k < b → getD extended (target + 4 + k) (pos 0) ≡ getD halves (target + 4 + k) (pos 0)
+    target-kept k inside = read .rest (target + 4 + k) (λ s h e. read .apart (4 + k) s (omega arith) h (omega arith))
 
-    read-within : (k t : ℕ) → natAbs (readEntry r b source k t) ≤ sourceReach r reach
+    source-kept : (k : ℕ) → k < b → getD extended (source + 4 + k) (pos 0) ≡ getD halves (source + 4 + k) (pos 0)
     unfolding heldEntry
-    read-within k t = read .sources (min (r .lead + t + k - 4) (b - 1)) (omega (arith, read .some))
+    source-kept k inside =
+        let place : source + (4 + k) ≡ source + 4 + k = omega arith in
+        let here : source + (4 + min (4 + k - 4) (b - 1)) ≡ source + 4 + k = omega arith in
+        rw (place, here) at (read .ends (4 + k) (omega arith))
+
+    -- what a tap reads, what it adds, and the bound of what it reads
+    entry-read : (k t : ℕ) → k < b → t < r .count → getD extended (getD places t 0 + k) (pos 0) ≡ readEntry r b source halves k t
+    entry-read k t inside h =
+        let order : source + r .lead + t + k ≡ source + (r .lead + t + k) = omega arith in
+        rw (read .placed t (omega (arith, read .sane .few-taps)), order) (read .ends (r .lead + t + k) (omega (arith, read .sane .near)))
+
+    tap-same : (k t : ℕ) → k < b → t < r .count → tapAt (r .taps) places extended k t ≡ getD (r .taps) t (pos 0) *ℤ readEntry r b source halves k t
+    unfolding tapAt
+    tap-same k t inside h = rw (entry-read k t inside h)
+
+    read-within : (k t : ℕ) → natAbs (readEntry r b source halves k t) ≤ sourceReach r reach
+    unfolding heldEntry
+    read-within k t =
+        let entry = min (r .lead + t + k - 4) (b - 1) in
+        let order : source + (4 + entry) ≡ source + 4 + entry = omega arith in
+        rw order (read .sources entry (omega (arith, read .some)))
 
     pub half-near : (t : ℕ) → t < r .count → Within extended (getD places t 0) b (sourceReach r reach)
-    half-near t h x inside =
-        rw (read .placed t (omega (arith, read .sane .few-taps)), read .ends (r .lead + t + x) (omega (arith, read .sane .near))) (read-within x t)
+    half-near t h x inside = rw (entry-read x t inside h) (read-within x t)
+
+    pub half-old : Within extended (target + 4) b (targetReach r reach)
+    half-old k inside = rw (target-kept k inside) (read .targets k inside)
 
     -- The sums of the taps over it.
     module _
@@ -260,70 +285,81 @@ module _
         (summed : (x : ℕ) → x < b → getD sums x (pos 0) ≡ rounding (r .scale) +ℤ sumBelow (tapAt (r .taps) places extended x) (r .count))
       where
         -- what a sum makes of entry k
-        entry-same : (k : ℕ) → k < b → changed (r .adds) (r .scale) (getD target (4 + k) (pos 0)) (getD sums k (pos 0)) ≡ newEntry r b target source k
-        entry-same k inside = rw (summed k inside, sum-same (tapAt (r .taps) places extended k) _ (r .count) (λ t h. tap-same k t inside h))
+        entry-same :
+            (k : ℕ) → k < b
+            → changed (r .adds) (r .scale) (getD extended (target + 4 + k) (pos 0)) (getD sums k (pos 0)) ≡ newEntry r b target source halves k
+        entry-same k inside =
+            rw (target-kept k inside, summed k inside, sum-same (tapAt (r .taps) places extended k) _ (r .count) (λ t h. tap-same k t inside h))
 
         -- the half with the new entries, where they fit
         module _
-            (answer : Bool) (target' : List ℤ) (room : 4 + b ≤ length target)
-            (told : answer ≡ allBelow b (λ k. fits32 (changed (r .adds) (r .scale) (getD target (4 + k) (pos 0)) (getD sums k (pos 0)))))
+            (answer : Bool) (halves' : List ℤ) (room : target + 4 + b ≤ length extended)
+            (told : answer ≡ allBelow b (λ k. fits32 (changed (r .adds) (r .scale) (getD extended (target + 4 + k) (pos 0)) (getD sums k (pos 0)))))
             (new :
-            answer ≡ true → target' ≡ fill target 4 b (λ k. changed (r .adds) (r .scale) (getD target (4 + k) (pos 0)) (getD sums k (pos 0))))
+            answer ≡ true
+            → halves' ≡ fill extended (target + 4) b (λ k. changed (r .adds) (r .scale) (getD extended (target + 4 + k) (pos 0)) (getD sums k (pos 0))))
           where
-            half-told : answer ≡ allBelow b (λ k. fits32 (newEntry r b target source k))
-            half-told = told ∙ all-same _ (λ k. fits32 (newEntry r b target source k)) b (λ k inside. rw (entry-same k inside))
+            half-told : answer ≡ allBelow b (λ k. fits32 (newEntry r b target source halves k))
+            half-told = told ∙ all-same _ (λ k. fits32 (newEntry r b target source halves k)) b (λ k inside. rw (entry-same k inside))
 
-            half-done : answer ≡ true → (k : ℕ) → k < b → getD target' (4 + k) (pos 0) ≡ newEntry r b target source k
+            half-done : answer ≡ true → (k : ℕ) → k < b → getD halves' (target + 4 + k) (pos 0) ≡ newEntry r b target source halves k
             half-done fits k inside =
                 rw (new fits)
-                (getD-fill-in target 4 (λ k. changed (r .adds) (r .scale) (getD target (4 + k) (pos 0)) (getD sums k (pos 0))) b k (pos 0) inside (omega arith))
+                (getD-fill-in extended (target + 4) (λ k. changed (r .adds) (r .scale) (getD extended (target + 4 + k) (pos 0)) (getD sums k (pos 0))) b k (pos 0) inside
+                (omega arith))
                 ∙ entry-same k inside
 
-            -- they are within the bound that the step leaves
-            half-within : answer ≡ true → Within target' 4 b (targetReach r (reachAfter r reach))
+            -- the other half is as it was
+            half-kept : answer ≡ true → (k : ℕ) → k < b → getD halves' (source + 4 + k) (pos 0) ≡ getD halves (source + 4 + k) (pos 0)
+            half-kept fits k inside =
+                rw (new fits)
+                (getD-fill-out extended (target + 4) (λ k. changed (r .adds) (r .scale) (getD extended (target + 4 + k) (pos 0)) (getD sums k (pos 0))) b (source + 4 + k) (pos 0)
+                (λ j below e. read .apart (4 + j) (4 + k) (omega arith) (omega arith) (omega arith)))
+                ∙ source-kept k inside
+
+            -- the new entries are within the bound that the step leaves
+            half-within : answer ≡ true → Within halves' (target + 4) b (targetReach r (reachAfter r reach))
             half-within fits k inside =
                 rw (half-done fits k inside, target-reach-after r reach)
-                (after-size r (read .sane) (sourceReach r reach) (readEntry r b source k) (λ t h. read-within k t) (getD target (4 + k) (pos 0)) (targetReach r reach) (read .targets k inside)
-                (all-at (λ k. fits32 (newEntry r b target source k)) b k (sym half-told ∙ fits) inside))
+                (after-size r (read .sane) (sourceReach r reach) (readEntry r b source halves k) (λ t h. read-within k t) (getD halves (target + 4 + k) (pos 0)) (targetReach r reach)
+                (read .targets k inside)
+                (all-at (λ k. fits32 (newEntry r b target source halves k)) b k (sym half-told ∙ fits) inside))
 
-            pub half-lifted : HalfLifted r b reach target source answer target' extended
-            half-lifted = (half-told, (half-done, (half-kept b source extended (read .ends), half-within)))
+            pub half-lifted : HalfLifted r b reach target source halves answer halves'
+            half-lifted = (half-told, (half-done, (half-kept, half-within)))
 
 -- a row's halves, as those of the even and of the odd places, and as those that a step changes and reads
 halves-apart :
-    (even : Bool) (b : ℕ) (reach : Reach) (low high : List ℤ) → HalvesReach b reach low high
-    → Within (cond even low high) 4 b (reachOf reach even) × Within (cond even high low) 4 b (reachOf reach (not even))
+    (even : Bool) (b : ℕ) (reach : Reach) (halves : List ℤ) → HalvesReach b reach halves
+    → Within halves (baseOf even + 4) b (reachOf reach even) × Within halves (baseOf (not even) + 4) b (reachOf reach (not even))
 unfolding reachOf
-halves-apart true b reach low high kept = (kept .2, kept .3)
-halves-apart false b reach low high kept = (kept .3, kept .2)
+halves-apart true b reach halves kept = (kept .2, kept .3)
+halves-apart false b reach halves kept = (kept .3, kept .2)
 
 halves-joined :
-    (even : Bool) (b : ℕ) (reach : Reach) (target source : List ℤ) → reach .even ≤ 2 ^ 32 → reach .odd ≤ 2 ^ 32
-    → Within target 4 b (reachOf reach even) → Within source 4 b (reachOf reach (not even))
-    → HalvesReach b reach (cond even target source) (cond even source target)
+    (even : Bool) (b : ℕ) (reach : Reach) (halves : List ℤ) → reach .even ≤ 2 ^ 32 → reach .odd ≤ 2 ^ 32
+    → Within halves (baseOf even + 4) b (reachOf reach even) → Within halves (baseOf (not even) + 4) b (reachOf reach (not even))
+    → HalvesReach b reach halves
 unfolding reachOf
-halves-joined true b reach target source most-even most-odd targets sources = (most-even, most-odd, targets, sources)
-halves-joined false b reach target source most-even most-odd targets sources = (most-even, most-odd, sources, targets)
+halves-joined true b reach halves most-even most-odd targets sources = (most-even, most-odd, targets, sources)
+halves-joined false b reach halves most-even most-odd targets sources = (most-even, most-odd, sources, targets)
 
 -- before a step, and after it: the half that it reads is as it was
-module _ (r : LiftingStep) (b : ℕ) (even : Bool) (same : r .even ≡ even) (reach : Reach) where
+module _ (r : LiftingStep) (b : ℕ) (even : Bool) (same : r .even ≡ even) (reach : Reach) (halves : List ℤ) where
   pub halves-before :
-      (low high : List ℤ) → HalvesReach b reach low high
-      → Within (cond even low high) 4 b (targetReach r reach) × Within (cond even high low) 4 b (sourceReach r reach)
-  halves-before low high kept =
-      let halves = halves-apart even b reach low high kept in (
-        subst (λ (e : Bool). Within (cond even low high) 4 b (reachOf reach e)) (sym same) (halves .0),
-        subst (λ (e : Bool). Within (cond even high low) 4 b (reachOf reach (not e))) (sym same) (halves .1),
-      )
+      HalvesReach b reach halves
+      → Within halves (baseOf even + 4) b (targetReach r reach) × Within halves (baseOf (not even) + 4) b (sourceReach r reach)
+  halves-before kept = rw same (halves-apart even b reach halves kept)
 
   pub halves-after :
-      (source target' source' : List ℤ) → reach .even ≤ 2 ^ 32 → reach .odd ≤ 2 ^ 32
-      → Within source 4 b (sourceReach r reach) → ((k : ℕ) → k < b → getD source' (4 + k) (pos 0) ≡ getD source (4 + k) (pos 0))
-      → Within target' 4 b (targetReach r (reachAfter r reach))
-      → HalvesReach b (reachAfter r reach) (cond even target' source') (cond even source' target')
-  halves-after source target' source' most-even most-odd sources kept targets =
-      let most = reach-most r reach most-even most-odd in
-      let read : Within source' 4 b (sourceReach r (reachAfter r reach)) = λ k h. rw (kept k h, source-reach-after r reach) (sources k h) in
-      halves-joined even b (reachAfter r reach) target' source' (most .0) (most .1)
-      (subst (λ (e : Bool). Within target' 4 b (reachOf (reachAfter r reach) e)) same targets)
-      (subst (λ (e : Bool). Within source' 4 b (reachOf (reachAfter r reach) (not e))) same read)
+      (halves' : List ℤ) → HalvesReach b reach halves
+      → ((k : ℕ) → k < b → getD halves' (baseOf (not even) + 4 + k) (pos 0) ≡ getD halves (baseOf (not even) + 4 + k) (pos 0))
+      → Within halves' (baseOf even + 4) b (targetReach r (reachAfter r reach))
+      → HalvesReach b (reachAfter r reach) halves'
+  halves-after halves' before kept targets =
+      let most = reach-most r reach (before .0) (before .1) in
+      let read : Within halves' (baseOf (not even) + 4) b (sourceReach r (reachAfter r reach)) =
+      λ k h. rw (kept k h, source-reach-after r reach) (halves-before before .1 k h) in
+      halves-joined even b (reachAfter r reach) halves' (most .0) (most .1)
+      (subst (λ (e : Bool). Within halves' (baseOf even + 4) b (reachOf (reachAfter r reach) e)) same targets)
+      (subst (λ (e : Bool). Within halves' (baseOf (not even) + 4) b (reachOf (reachAfter r reach) (not e))) same read)

@@ -32,25 +32,25 @@ halfRow half place work k x = getD work (place + halfPlace half x) (pos 0)
 abbrev pub wovenRow : List Step → Bool → ℕ → ℕ → List ℤ → Line
 wovenRow steps shift half place work x = shifted shift (runAll 1 (2 * half) (map rows steps) (halfRow half place work) 0 x)
 
--- A row whose halves were copied to two buffers.
+-- A row whose halves were copied to the line buffer.
 module _
-    (steps : List Step) (shift : Bool) (half place : ℕ) (some : 1 ≤ half) (work low high : List ℤ)
-    (copied : (x : ℕ) → x < 2 * half → woven low high x ≡ getD work (place + halfPlace half x) (pos 0))
+    (steps : List Step) (shift : Bool) (half place : ℕ) (some : 1 ≤ half) (work halves : List ℤ)
+    (copied : (x : ℕ) → x < 2 * half → woven halves x ≡ getD work (place + halfPlace half x) (pos 0))
   where
-    -- its new numbers are those of the buffers
-    pub row-told : allNewFit 1 (2 * half) (map rows steps) (λ row. woven low high) ≡ allNewFit 1 (2 * half) (map rows steps) (halfRow half place work)
-    row-told = rows-fit-same 1 (2 * half) (twice-length half some) steps (λ row. woven low high) (halfRow half place work) (λ row x r inside. copied x inside)
+    -- its new numbers are those of the buffer
+    pub row-told : allNewFit 1 (2 * half) (map rows steps) (λ row. woven halves) ≡ allNewFit 1 (2 * half) (map rows steps) (halfRow half place work)
+    row-told = rows-fit-same 1 (2 * half) (twice-length half some) steps (λ row. woven halves) (halfRow half place work) (λ row x r inside. copied x inside)
 
     -- and so are its numbers in the end
     module _
-        (asked : Bool) (low' high' : List ℤ) (same : asked ≡ shift)
-        (done : (x : ℕ) → x < 2 * half → woven low' high' x ≡ runAll 1 (2 * half) (map rows steps) (λ row. woven low high) 0 x)
+        (asked : Bool) (halves' : List ℤ) (same : asked ≡ shift)
+        (done : (x : ℕ) → x < 2 * half → woven halves' x ≡ runAll 1 (2 * half) (map rows steps) (λ row. woven halves) 0 x)
       where
-        pub row-entry : (x : ℕ) → x < 2 * half → shifted asked (woven low' high' x) ≡ wovenRow steps shift half place work x
+        pub row-entry : (x : ℕ) → x < 2 * half → shifted asked (woven halves' x) ≡ wovenRow steps shift half place work x
         row-entry x inside =
-            rw (same, done x inside, rows-run-same 1 (2 * half) (twice-length half some) steps (λ row. woven low high) (halfRow half place work) (λ row x r inside. copied x inside) 0 x (omega arith) inside)
+            rw (same, done x inside, rows-run-same 1 (2 * half) (twice-length half some) steps (λ row. woven halves) (halfRow half place work) (λ row x r inside. copied x inside) 0 x (omega arith) inside)
 
-        pub row-woven : fill work place (2 * half) (λ x. shifted asked (woven low' high' x)) ≡ fill work place (2 * half) (wovenRow steps shift half place work)
+        pub row-woven : fill work place (2 * half) (λ x. shifted asked (woven halves' x)) ≡ fill work place (2 * half) (wovenRow steps shift half place work)
         row-woven = fill-same work place _ (wovenRow steps shift half place work) (2 * half) row-entry
 
 -- A part of a plane that was filled: copied to another plane, and filled again.

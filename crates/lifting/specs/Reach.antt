@@ -49,7 +49,7 @@ ColumnsReach f reach plane =
     × (reach .odd ≤ 2 ^ 32)
     × ((even : Bool) (k : ℕ) → k < f .«band_rows» → Within plane (targetRow even k * f .stride) (2 * f .«band_columns») (reachOf reach even))
 
--- The halves of a row in two line buffers, the even places and the odd ones, keep to a reach.
-abbrev pub HalvesReach : ℕ → Reach → List ℤ → List ℤ → Type 0
-HalvesReach half reach low high =
-    (reach .even ≤ 2 ^ 32) × (reach .odd ≤ 2 ^ 32) × Within low 4 half (reach .even) × Within high 4 half (reach .odd)
+-- The halves of a row in the line buffer, the even places and the odd ones, keep to a reach.
+abbrev pub HalvesReach : ℕ → Reach → List ℤ → Type 0
+HalvesReach half reach halves =
+    (reach .even ≤ 2 ^ 32) × (reach .odd ≤ 2 ^ 32) × Within halves 4 half (reach .even) × Within halves 2060 half (reach .odd)

@@ -35,7 +35,7 @@ largest (t ∷ ts) = max (natAbs t) (largest ts)
 unfoldable pub gainOf : Step → ℕ
 gainOf s = length (s .taps) * largest (s .taps)
 
--- The sizes that keep a step's sums within 64 bits, and its reads within a line buffer; that its taps are one, or the same from both ends; and
+-- The sizes that keep a step's sums within 64 bits, and its reads within the line buffer; that its taps are one, or the same from both ends; and
 -- that its gain is that of its taps.
 pub record Sane (r : LiftingStep) : Type 0 where
   pub few-taps : r .count ≤ 8

@@ -1,7 +1,8 @@
-// Document 01, "Lifting", on every row of a picture in a plane: each row is taken apart into its even and its odd places, in line buffers,
+// Document 01, "Lifting", on every row of a picture in a plane: each row is taken apart into its even and its odd places, in a line buffer,
 // lifted there, and woven back.
 ghost use mathlib.Core.Path.{_≡_};
 ghost use mathlib.Core.Bool.{true};
+ghost use mathlib.Core.Logic.{_≢_};
 ghost use mathlib.Core.List.{map};
 ghost use Prim.Native.Nat.{ℕ, _+_, _*_, _^_, _≤_, _<_};
 ghost use lib.IntN.{pos, _+ℤ_, _*ℤ_};
@@ -43,8 +44,7 @@ use lines::sums::sum_taps;
 pub fn finish_rows(
     work: &mut [i32],
     samples: &mut [i32],
-    low: &mut [i32; 2056],
-    high: &mut [i32; 2056],
+    halves: &mut [i32; 4112],
     sums: &mut [i32; 4096],
     frame: Frame,
     wavelet: usize,
@@ -70,8 +70,7 @@ pub fn finish_rows(
             samples,
             row * count,
             count,
-            low,
-            high,
+            halves,
             sums,
             half,
             wavelet,
@@ -90,8 +89,7 @@ fn finish_row(
     samples: &mut [i32],
     to: usize,
     count: usize,
-    low: &mut [i32; 2056],
-    high: &mut [i32; 2056],
+    halves: &mut [i32; 4112],
     sums: &mut [i32; 4096],
     half: usize,
     wavelet: usize,
@@ -103,7 +101,7 @@ fn finish_row(
     ensures fit { λ r. ⌜ (r ≡ true → (x : ℕ) → x < 2 * half → fits32 (shifted (filterOf wavelet .shift) (runAll 1 (2 * half) (map rows (filterOf wavelet .steps)) (λ row k. getD (now (work .entry)) (place + halfPlace half k) (pos 0)) 0 x)) ≡ true) ⌝ }
     ensures cleared { λ r. ⌜ (r ≡ true → now (work .exit) ≡ fill (now (work .entry)) place (2 * half) (λ x. pos 0)) ⌝ }
 {
-    if !filter_row(work, place, low, high, sums, half, wavelet) {
+    if !filter_row(work, place, halves, sums, half, wavelet) {
         return false;
     }
     copy(samples, to, work, place, count);
@@ -126,8 +124,7 @@ fn kept_columns(row: usize, width: usize, height: usize) -> usize
 // a new number of a step is outside 32 bits; then the plane's numbers are of no use.
 pub fn filter_rows(
     work: &mut [i32],
-    low: &mut [i32; 2056],
-    high: &mut [i32; 2056],
+    halves: &mut [i32; 4112],
     sums: &mut [i32; 4096],
     frame: Frame,
     wavelet: usize,
@@ -142,7 +139,7 @@ pub fn filter_rows(
     let height = 2 * frame.band_rows;
     let mut row = 0;
     while row < height {
-        if !filter_row(work, row * stride, low, high, sums, half, wavelet) {
+        if !filter_row(work, row * stride, halves, sums, half, wavelet) {
             return false;
         }
         row += 1;
@@ -154,8 +151,7 @@ pub fn filter_rows(
 fn filter_row(
     work: &mut [i32],
     place: usize,
-    low: &mut [i32; 2056],
-    high: &mut [i32; 2056],
+    halves: &mut [i32; 4112],
     sums: &mut [i32; 4096],
     half: usize,
     wavelet: usize,
@@ -165,39 +161,38 @@ fn filter_row(
     ensures done { λ r. ⌜ (r ≡ true → now (work .exit) ≡ fill (now (work .entry)) place (2 * half) (λ x. shifted (filterOf wavelet .shift) (runAll 1 (2 * half) (map rows (filterOf wavelet .steps)) (λ row k. getD (now (work .entry)) (place + halfPlace half k) (pos 0)) 0 x))) ⌝ }
     ensures fit { λ r. ⌜ (r ≡ true → (x : ℕ) → x < 2 * half → fits32 (shifted (filterOf wavelet .shift) (runAll 1 (2 * half) (map rows (filterOf wavelet .steps)) (λ row k. getD (now (work .entry)) (place + halfPlace half k) (pos 0)) 0 x)) ≡ true) ⌝ }
 {
-    let low_most = copy_measured(low, 4, work, place, half) as u64;
-    let high_most = copy_measured(high, 4, work, place + half, half) as u64;
+    let low_most = copy_measured(halves, 4, work, place, half) as u64;
+    let high_most = copy_measured(halves, 2060, work, place + half, half) as u64;
     let reach = Reach {
         even: low_most + 1,
         odd: high_most + 1,
     };
-    if !filter_halves(low, high, sums, half, wavelet, reach) {
+    if !filter_halves(halves, sums, half, wavelet, reach) {
         return false;
     }
-    weave(work, place, low, high, half, has_shift(wavelet));
+    weave(work, place, halves, half, has_shift(wavelet));
     true
 }
 
-// Runs the steps of a filter on a row whose even places stand in one line buffer and whose odd places in another, each within its reach.
+// Runs the steps of a filter on a row whose even and odd places stand as the two halves in the line buffer, each within its reach.
 fn filter_halves(
-    low: &mut [i32; 2056],
-    high: &mut [i32; 2056],
+    halves: &mut [i32; 4112],
     sums: &mut [i32; 4096],
     half: usize,
     wavelet: usize,
     first: Reach,
 ) -> bool
     requires { ⌜ (1 ≤ half) × (half ≤ 2048) × (wavelet ≤ 6) ⌝ }
-    requires { ⌜ HalvesReach half first (now low) (now high) ⌝ }
-    ensures told { λ r. ⌜ r ≡ allNewFit 1 (2 * half) (map rows (filterOf wavelet .steps)) (λ row. woven (now (low .entry)) (now (high .entry))) ⌝ }
-    ensures done { λ r. ⌜ (r ≡ true → (x : ℕ) → x < 2 * half → woven (now (low .exit)) (now (high .exit)) x ≡ runAll 1 (2 * half) (map rows (filterOf wavelet .steps)) (λ row. woven (now (low .entry)) (now (high .entry))) 0 x) ⌝ }
+    requires { ⌜ HalvesReach half first (now halves) ⌝ }
+    ensures told { λ r. ⌜ r ≡ allNewFit 1 (2 * half) (map rows (filterOf wavelet .steps)) (λ row. woven (now (halves .entry))) ⌝ }
+    ensures done { λ r. ⌜ (r ≡ true → (x : ℕ) → x < 2 * half → woven (now (halves .exit)) x ≡ runAll 1 (2 * half) (map rows (filterOf wavelet .steps)) (λ row. woven (now (halves .entry))) 0 x) ⌝ }
 {
     let count = step_count(wavelet);
     let mut reach = first;
     let mut k = 0;
     while k < count {
         let step = step_at(wavelet, k);
-        if !lift_halves(low, high, sums, half, step, reach) {
+        if !lift_halves(halves, sums, half, step, reach) {
             return false;
         }
         reach = reach_after(step, reach);
@@ -208,65 +203,66 @@ fn filter_halves(
 
 // Runs one step on such a row.
 fn lift_halves(
-    low: &mut [i32; 2056],
-    high: &mut [i32; 2056],
+    halves: &mut [i32; 4112],
     sums: &mut [i32; 4096],
     half: usize,
     step: LiftingStep,
     reach: Reach,
 ) -> bool
     requires { ⌜ (1 ≤ half) × (half ≤ 2048) × Sane step ⌝ }
-    requires { ⌜ HalvesReach half reach (now low) (now high) ⌝ }
-    ensures told { λ r. ⌜ r ≡ newFit 1 (2 * half) (rows (stepOf step)) (run 1 (2 * half) (rows (stepOf step)) (λ row. woven (now (low .entry)) (now (high .entry)))) ⌝ }
-    ensures done { λ r. ⌜ (r ≡ true → (x : ℕ) → x < 2 * half → woven (now (low .exit)) (now (high .exit)) x ≡ lift (stepOf step) (2 * half) (woven (now (low .entry)) (now (high .entry))) x) ⌝ }
-    ensures bounded { λ r. ⌜ (r ≡ true → HalvesReach half (reachAfter step reach) (now (low .exit)) (now (high .exit))) ⌝ }
+    requires { ⌜ HalvesReach half reach (now halves) ⌝ }
+    ensures told { λ r. ⌜ r ≡ newFit 1 (2 * half) (rows (stepOf step)) (run 1 (2 * half) (rows (stepOf step)) (λ row. woven (now (halves .entry)))) ⌝ }
+    ensures done { λ r. ⌜ (r ≡ true → (x : ℕ) → x < 2 * half → woven (now (halves .exit)) x ≡ lift (stepOf step) (2 * half) (woven (now (halves .entry))) x) ⌝ }
+    ensures bounded { λ r. ⌜ (r ≡ true → HalvesReach half (reachAfter step reach) (now (halves .exit))) ⌝ }
 {
     if step.even {
-        lift_half(low, high, sums, half, step, reach)
+        lift_half(halves, 0, 2056, sums, half, step, reach)
     } else {
-        lift_half(high, low, sums, half, step, reach)
+        lift_half(halves, 2056, 0, sums, half, step, reach)
     }
 }
 
-// Lifts one half of a row by the other, whose ends are repeated first: in 32 bits where the sizes of their numbers allow it.
+// Lifts the half behind one base by the half behind another, whose ends are repeated first: in 32 bits where the sizes of their numbers allow it.
 fn lift_half(
-    target: &mut [i32; 2056],
-    source: &mut [i32; 2056],
+    halves: &mut [i32; 4112],
+    target: usize,
+    source: usize,
     sums: &mut [i32; 4096],
     half: usize,
     step: LiftingStep,
     reach: Reach,
 ) -> bool
     requires { ⌜ (1 ≤ half) × (half ≤ 2048) × Sane step ⌝ }
-    requires { ⌜ (reach .even ≤ 2 ^ 32) × (reach .odd ≤ 2 ^ 32) × Within (now target) 4 half (targetReach step reach) × Within (now source) 4 half (sourceReach step reach) ⌝ }
-    ensures told { λ r. ⌜ r ≡ allBelow half (λ k. fits32 (changed (step .adds) (step .scale) (getD (now (target .entry)) (4 + k) (pos 0)) (rounding (step .scale) +ℤ sumBelow (λ t. getD (step .taps) t (pos 0) *ℤ getD (now (source .entry)) (heldEntry half (step .lead + t + k)) (pos 0)) (step .count)))) ⌝ }
-    ensures done { λ r. ⌜ (r ≡ true → (k : ℕ) → k < half → getD (now (target .exit)) (4 + k) (pos 0) ≡ changed (step .adds) (step .scale) (getD (now (target .entry)) (4 + k) (pos 0)) (rounding (step .scale) +ℤ sumBelow (λ t. getD (step .taps) t (pos 0) *ℤ getD (now (source .entry)) (heldEntry half (step .lead + t + k)) (pos 0)) (step .count))) ⌝ }
-    ensures kept { λ _. ⌜ ((k : ℕ) → k < half → getD (now (source .exit)) (4 + k) (pos 0) ≡ getD (now (source .entry)) (4 + k) (pos 0)) ⌝ }
-    ensures bounded { λ r. ⌜ (r ≡ true → Within (now (target .exit)) 4 half (targetReach step (reachAfter step reach))) ⌝ }
+    requires { ⌜ (target ≤ 2056) × (source ≤ 2056) × ((i j : ℕ) → i < half + 8 → j < half + 8 → target + i ≢ source + j) ⌝ }
+    requires { ⌜ (reach .even ≤ 2 ^ 32) × (reach .odd ≤ 2 ^ 32) × Within (now halves) (target + 4) half (targetReach step reach) × Within (now halves) (source + 4) half (sourceReach step reach) ⌝ }
+    ensures told { λ r. ⌜ r ≡ allBelow half (λ k. fits32 (changed (step .adds) (step .scale) (getD (now (halves .entry)) (target + 4 + k) (pos 0)) (rounding (step .scale) +ℤ sumBelow (λ t. getD (step .taps) t (pos 0) *ℤ getD (now (halves .entry)) (source + heldEntry half (step .lead + t + k)) (pos 0)) (step .count)))) ⌝ }
+    ensures done { λ r. ⌜ (r ≡ true → (k : ℕ) → k < half → getD (now (halves .exit)) (target + 4 + k) (pos 0) ≡ changed (step .adds) (step .scale) (getD (now (halves .entry)) (target + 4 + k) (pos 0)) (rounding (step .scale) +ℤ sumBelow (λ t. getD (step .taps) t (pos 0) *ℤ getD (now (halves .entry)) (source + heldEntry half (step .lead + t + k)) (pos 0)) (step .count))) ⌝ }
+    ensures kept { λ r. ⌜ (r ≡ true → (k : ℕ) → k < half → getD (now (halves .exit)) (source + 4 + k) (pos 0) ≡ getD (now (halves .entry)) (source + 4 + k) (pos 0)) ⌝ }
+    ensures bounded { λ r. ⌜ (r ≡ true → Within (now (halves .exit)) (target + 4) half (targetReach step (reachAfter step reach))) ⌝ }
 {
-    extend(source, half);
-    let places = line_places(step.lead);
+    extend(halves, source, half);
+    let places = line_places(source + step.lead);
     let taps = step.taps;
     let round = rounding_of(step.scale);
     if stays_small(step, reach) {
-        sum_small(sums, source, half, &taps, &places, step.count, round);
-        lift_small(target, 4, sums, half, step.scale, step.adds);
+        sum_small(sums, halves, half, &taps, &places, step.count, round);
+        lift_small(halves, target + 4, sums, half, step.scale, step.adds);
         return true;
     }
     let mut exact = [0i64; 4096];
-    sum_taps(&mut exact, source, half, &taps, &places, step.count, round);
-    lift_line(target, 4, &exact, half, step.scale, step.adds)
+    sum_taps(&mut exact, halves, half, &taps, &places, step.count, round);
+    lift_line(halves, target + 4, &exact, half, step.scale, step.adds)
 }
 
-// Where eight taps start in a line buffer, the first one at the lead.
-fn line_places(lead: usize) -> [usize; 8]
-    requires { ⌜ lead ≤ 9 ⌝ }
-    ensures { λ r. ⌜ ((t : ℕ) → t < 8 → getD r t 0 ≡ lead + t) ⌝ }
+// Where eight taps start in the line buffer, one after the other.
+fn line_places(first: usize) -> [usize; 8]
+    requires { ⌜ first ≤ 4112 ⌝ }
+    ensures { λ r. ⌜ ((t : ℕ) → t < 8 → getD r t 0 ≡ first + t) ⌝ }
 {
     let mut places = [0usize; 8];
     let mut t = 0;
     while t < 8 {
-        places[t] = lead + t;
+        places[t] = first + t;
         t += 1;
     }
     places

@@ -1,6 +1,7 @@
--- Laws of line buffers: the ends of a half repeated, the entries of a woven row, and a number halved with the half rounded up.
+-- Laws of the line buffer: the ends of a half repeated, the entries of a woven row, and a number halved with the half rounded up.
 -- Assumes nothing.
 use mathlib.Core.Path.{_≡_, refl, sym, ap, _∙_, subst}
+use mathlib.Core.Logic.{_≢_}
 use mathlib.Core.List.{List}
 use Prim.Native.Nat.{ℕ, zero, suc, _+_, _-_, _*_, _/_, _%_, _≤_, _<_, min}
 use native.Mathlib.Decide.{decLt, ℕ-discrete}
@@ -11,7 +12,7 @@ use lib.ListN.{length, getD, set}
 use lib.Signed.{mag}
 use Rattle.base.specs.Fill.{fill}
 use Rattle.base.specs.Floor.{floorDiv}
-use Rattle.base.proofs.Fills.{fill-none, fill-more, length-fill, getD-fill-in, getD-fill-out, getD-fill-start, set-fill-out}
+use Rattle.base.proofs.Fills.{fill-none, fill-more, length-fill, getD-fill-in, getD-fill-out, set-fill-out}
 use Rattle.lines.specs.Buffers.{heldEntry, woven}
 
 -- a difference of natural numbers that is not below 0
@@ -32,55 +33,69 @@ half-small (pos n) = omega arith
 half-small (negsuc zero) = omega arith
 half-small (negsuc (suc n)) = rw (lt-ltb 1 (suc (suc n)) (omega arith)) (omega arith)
 
--- a line with n entries repeated on either side of a half
-abbrev pub ends : List ℤ → ℕ → ℕ → ℤ → ℤ → List ℤ
-ends l b n first last = fill (fill l 0 n (λ k. first)) (b + 4) n (λ k. last)
+-- a line with n entries repeated on either side of the half of b entries behind a base
+abbrev pub ends : List ℤ → ℕ → ℕ → ℕ → ℤ → ℤ → List ℤ
+ends l base b n first last = fill (fill l base n (λ k. first)) (base + b + 4) n (λ k. last)
 
-module _ (l : List ℤ) (b : ℕ) where
+module _ (l : List ℤ) (base b : ℕ) where
   -- none repeated, and one more on either side
-  pub ends-none : (first last : ℤ) → ends l b 0 first last ≡ l
-  ends-none first last = fill-none _ (b + 4) _ ∙ fill-none l 0 _
+  pub ends-none : (first last : ℤ) → ends l base b 0 first last ≡ l
+  ends-none first last = fill-none _ (base + b + 4) _ ∙ fill-none l base _
 
-  pub ends-more : (n : ℕ) (first last : ℤ) → n < 4 → set (set (ends l b n first last) n first) (b + 4 + n) last ≡ ends l b (n + 1) first last
+  pub ends-more :
+      (n : ℕ) (first last : ℤ) → n < 4
+      → set (set (ends l base b n first last) (base + n) first) (base + b + 4 + n) last ≡ ends l base b (n + 1) first last
   ends-more n first last h =
-      rw (set-fill-out (fill l 0 n (λ k. first)) (b + 4) (λ k. last) n n first (λ k below. omega arith), fill-more l 0 (λ k. first) n n (omega arith))
-      (fill-more (fill l 0 (n + 1) (λ k. first)) (b + 4) (λ k. last) n (b + 4 + n) refl)
+      rw (
+        set-fill-out (fill l base n (λ k. first)) (base + b + 4) (λ k. last) n (base + n) first (λ k below. omega arith),
+        fill-more l base (λ k. first) n (base + n) refl,
+      )
+      (fill-more (fill l base (n + 1) (λ k. first)) (base + b + 4) (λ k. last) n (base + b + 4 + n) refl)
 
   -- four repeated are the entries held to the half
-  pub ends-held : (s : ℕ) → 1 ≤ b → b + 8 ≤ length l → s < b + 8 → getD (ends l b 4 (getD l 4 (pos 0)) (getD l (b + 3) (pos 0))) s (pos 0) ≡ getD l (heldEntry b s) (pos 0)
+  pub ends-held :
+      (s : ℕ) → 1 ≤ b → base + b + 8 ≤ length l → s < b + 8
+      → getD (ends l base b 4 (getD l (base + 4) (pos 0)) (getD l (base + b + 3) (pos 0))) (base + s) (pos 0) ≡ getD l (base + heldEntry b s) (pos 0)
   unfolding heldEntry
   ends-held s some room h =
-      let first = getD l 4 (pos 0) in
-      let last = getD l (b + 3) (pos 0) in
-      let inner = fill l 0 4 (λ k. first) in
+      let first = getD l (base + 4) (pos 0) in
+      let last = getD l (base + b + 3) (pos 0) in
+      let inner = fill l base 4 (λ k. first) in
       elim (decLt s (b + 4)) [
         | yes before ↦
-            getD-fill-out inner (b + 4) (λ k. last) 4 s (pos 0) (λ k below. omega arith)
+            getD-fill-out inner (base + b + 4) (λ k. last) 4 (base + s) (pos 0) (λ k below. omega arith)
             ∙ elim (decLt s 4) [
               | yes left ↦
                   let at : 4 ≡ 4 + min (s - 4) (b - 1) = omega arith in
-                  getD-fill-start l (λ k. first) 4 s (pos 0) left (omega arith) ∙ ap (λ (k : ℕ). getD l k (pos 0)) at
+                  getD-fill-in l base (λ k. first) 4 s (pos 0) left (omega arith) ∙ ap (λ (k : ℕ). getD l (base + k) (pos 0)) at
               | no notLeft ↦
                   let at : s ≡ 4 + min (s - 4) (b - 1) = omega arith in
-                  getD-fill-out l 0 (λ k. first) 4 s (pos 0) (λ k below. omega arith) ∙ ap (λ (k : ℕ). getD l k (pos 0)) at
+                  getD-fill-out l base (λ k. first) 4 (base + s) (pos 0) (λ k below. omega arith) ∙ ap (λ (k : ℕ). getD l (base + k) (pos 0)) at
             ]
         | no after ↦
-            let place : b + 4 + (s - (b + 4)) ≡ s = omega arith in
-            let at : b + 3 ≡ 4 + min (s - 4) (b - 1) = omega arith in
-            rw place at (getD-fill-in inner (b + 4) (λ k. last) 4 (s - (b + 4)) (pos 0) (omega arith) (rw (length-fill l 0 (λ k. first) 4) (omega arith)))
+            let place : base + b + 4 + (s - (b + 4)) ≡ base + s = omega arith in
+            let at : base + b + 3 ≡ base + (4 + min (s - 4) (b - 1)) = omega arith in
+            rw place at (getD-fill-in inner (base + b + 4) (λ k. last) 4 (s - (b + 4)) (pos 0) (omega arith) (rw (length-fill l base (λ k. first) 4) (omega arith)))
             ∙ ap (λ (k : ℕ). getD l k (pos 0)) at
       ]
 
+  -- the entries outside it and its ends stay
+  pub ends-kept :
+      (first last : ℤ) (p : ℕ) → ((s : ℕ) → s < b + 8 → p ≢ base + s) → getD (ends l base b 4 first last) p (pos 0) ≡ getD l p (pos 0)
+  ends-kept first last p outside =
+      getD-fill-out (fill l base 4 (λ k. first)) (base + b + 4) (λ k. last) 4 p (pos 0) (λ k below e. outside (b + 4 + k) (omega arith) (omega arith))
+      ∙ getD-fill-out l base (λ k. first) 4 p (pos 0) (λ k below. outside k (omega arith))
+
 -- an even and an odd place of a woven row
-pub woven-even : (low high : List ℤ) (x : ℕ) → woven low high (2 * x) ≡ getD low (4 + x) (pos 0)
+pub woven-even : (halves : List ℤ) (x : ℕ) → woven halves (2 * x) ≡ getD halves (4 + x) (pos 0)
 unfolding woven
-woven-even low high x =
+woven-even halves x =
     let half : 2 * x / 2 ≡ x = omega arith in
     rw (eq-eqb (2 * x % 2) 0 (omega arith), half)
 
-pub woven-odd : (low high : List ℤ) (x : ℕ) → woven low high (2 * x + 1) ≡ getD high (4 + x) (pos 0)
+pub woven-odd : (halves : List ℤ) (x : ℕ) → woven halves (2 * x + 1) ≡ getD halves (2060 + x) (pos 0)
 unfolding woven
-woven-odd low high x =
+woven-odd halves x =
     let half : (2 * x + 1) / 2 ≡ x = omega arith in
     rw (ne-eqb ((2 * x + 1) % 2) 0 (omega arith), half)
 

@@ -1,5 +1,5 @@
--- Line buffers: one half of a row, low or high, from entry 4 on, with room for 4 entries on either side. And the sizes of numbers that keep
--- sums within 64 bits. These are the code's own forms; no definition of the format rests on them.
+-- The line buffer: the low half of a row from entry 4 on and the high half from entry 2060 on, each with room for 4 entries on either side. And
+-- the sizes of numbers that keep sums within 64 bits. These are the code's own forms; no definition of the format rests on them.
 use mathlib.Core.Path.{_≡_}
 use mathlib.Core.Logic.{_≢_}
 use Prim.Native.Nat.{ℕ, _+_, _-_, _*_, _^_, _/_, _%_, _≤_, _<_, min}
@@ -22,13 +22,13 @@ Within l place w m = (x : ℕ) → x < w → natAbs (getD l (place + x) (pos 0))
 abbrev pub Symmetric : List ℤ → ℕ → Type 0
 Symmetric l n = (n ≢ 1 → n ≡ 2 * (n / 2)) × ((t : ℕ) → t < n → getD l (n - 1 - t) (pos 0) ≡ getD l t (pos 0))
 
--- The place in a line buffer of entry s − 4 of a half of b entries, held to 0..b − 1.
+-- The place, behind its base in the line buffer, of entry s − 4 of a half of b entries, held to 0..b − 1.
 unfoldable pub heldEntry : ℕ → ℕ → ℕ
 heldEntry b s = 4 + min (s - 4) (b - 1)
 
 -- The row whose even places are the low half and whose odd places are the high half.
-unfoldable pub woven : List ℤ → List ℤ → ℕ → ℤ
-woven low high x = cond (eqb (x % 2) 0) (getD low (4 + x / 2) (pos 0)) (getD high (4 + x / 2) (pos 0))
+unfoldable pub woven : List ℤ → ℕ → ℤ
+woven halves x = cond (eqb (x % 2) 0) (getD halves (4 + x / 2) (pos 0)) (getD halves (2060 + x / 2) (pos 0))
 
 -- "if the shift is 1, replace each v by floor((v + 1)/2)"
 unfoldable pub shifted : Bool → ℤ → ℤ

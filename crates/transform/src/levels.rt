@@ -31,8 +31,7 @@ pub struct Extent {
 pub fn synthesise_levels(
     work: &mut [i32],
     coefficients: &[i32],
-    low: &mut [i32; 2056],
-    high: &mut [i32; 2056],
+    halves: &mut [i32; 4112],
     sums: &mut [i32; 4096],
     extent: Extent,
     wavelet: usize,
@@ -47,11 +46,11 @@ pub fn synthesise_levels(
         return 0;
     }
     let below = n - 1;
-    let bad = synthesise_levels(work, coefficients, low, high, sums, extent, wavelet, below);
+    let bad = synthesise_levels(work, coefficients, halves, sums, extent, wavelet, below);
     if bad != 0 {
         return bad;
     }
-    if synthesise_level(work, coefficients, low, high, sums, extent, wavelet, below) {
+    if synthesise_level(work, coefficients, halves, sums, extent, wavelet, below) {
         0
     } else {
         n
@@ -80,8 +79,7 @@ fn copy_low_band(work: &mut [i32], coefficients: &[i32], extent: Extent)
 fn synthesise_level(
     work: &mut [i32],
     coefficients: &[i32],
-    low: &mut [i32; 2056],
-    high: &mut [i32; 2056],
+    halves: &mut [i32; 4112],
     sums: &mut [i32; 4096],
     extent: Extent,
     wavelet: usize,
@@ -96,7 +94,7 @@ fn synthesise_level(
     if !filter_columns(work, sums, frame, wavelet, most) {
         return false;
     }
-    filter_rows(work, low, high, sums, frame, wavelet)
+    filter_rows(work, halves, sums, frame, wavelet)
 }
 
 // Builds the picture of the last level likewise. Its first rows and columns go to the samples, and the work plane is zeroed. False where it
@@ -105,8 +103,7 @@ fn finish_level(
     work: &mut [i32],
     samples: &mut [i32],
     coefficients: &[i32],
-    low: &mut [i32; 2056],
-    high: &mut [i32; 2056],
+    halves: &mut [i32; 4112],
     sums: &mut [i32; 4096],
     extent: Extent,
     wavelet: usize,
@@ -125,17 +122,7 @@ fn finish_level(
     if !filter_columns(work, sums, frame, wavelet, most) {
         return false;
     }
-    finish_rows(
-        work,
-        samples,
-        low,
-        high,
-        sums,
-        frame,
-        wavelet,
-        width,
-        height,
-    )
+    finish_rows(work, samples, halves, sums, frame, wavelet, width, height)
 }
 
 // Builds the levels below the last in the work plane and the last one in the samples, of which there is the component's first rows and columns.
@@ -155,15 +142,13 @@ pub fn synthesise_samples(
     ensures told { λ r. ⌜ r ≡ firstBadLevel (filterOf wavelet) (extent .«low_rows») (extent .«low_columns») (pictureOf (extent .«padded_width») (now (coefficients .entry))) (extent .depth) ⌝ }
     ensures done { λ r. ⌜ (r ≡ 0 → Agree height width (pictureOf width (now (samples .exit))) (synthesis (filterOf wavelet) (extent .«low_rows») (extent .«low_columns») (pictureOf (extent .«padded_width») (now (coefficients .entry))) (extent .depth)) × (now (work .exit) ≡ zerosLike (now (work .entry)))) ⌝ }
 {
-    let mut low = [0i32; 2056];
-    let mut high = [0i32; 2056];
+    let mut halves = [0i32; 4112];
     let mut sums = [0i32; 4096];
     let below = extent.depth - 1;
     let bad = synthesise_levels(
         work,
         coefficients,
-        &mut low,
-        &mut high,
+        &mut halves,
         &mut sums,
         extent,
         wavelet,
@@ -176,8 +161,7 @@ pub fn synthesise_samples(
         work,
         samples,
         coefficients,
-        &mut low,
-        &mut high,
+        &mut halves,
         &mut sums,
         extent,
         wavelet,

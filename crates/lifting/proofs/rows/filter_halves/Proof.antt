@@ -23,15 +23,15 @@ use Rattle.lifting.proofs.rows.filter_halves.Statement.{statement}
 use Rattle.lifting.proofs.rows.filter_halves.Tie as tie
 
 abbrev Inv-loop : tie.InvT-loop
-Inv-loop low₀ high₀ sums₀ half wavelet count reach₀ k₀ low high sums reach k =
+Inv-loop halves₀ sums₀ half wavelet count reach₀ k₀ halves sums reach k =
     let passes = take k (map rows (filterOf wavelet .steps)) in
     (k ≤ count)
-    × (allNewFit 1 (2 * half) passes (λ row. woven low₀ high₀) ≡ true)
-    × Agree 1 (2 * half) (λ row. woven low high) (runAll 1 (2 * half) passes (λ row. woven low₀ high₀))
-    × HalvesReach half reach low high
+    × (allNewFit 1 (2 * half) passes (λ row. woven halves₀) ≡ true)
+    × Agree 1 (2 * half) (λ row. woven halves) (runAll 1 (2 * half) passes (λ row. woven halves₀))
+    × HalvesReach half reach halves
 
 abbrev μ-loop : tie.MeasureT-loop
-μ-loop low₀ high₀ sums₀ half wavelet count reach₀ k₀ low high sums reach k = count - k
+μ-loop halves₀ sums₀ half wavelet count reach₀ k₀ halves sums reach k = count - k
 
 step-count-requires : tie.Need-step-count-requires Inv-loop μ-loop
 step-count-requires c κs = search needs
@@ -45,7 +45,7 @@ step-at-requires c κs = (c .before .before .before .pre .0 .2, rw (← c .befor
 
 lift-halves-requires : tie.Need-lift-halves-requires Inv-loop μ-loop
 lift-halves-requires c κs =
-    let turn = c .before .before .before in
+    let turn = c .before .before in
     let start = turn .before .before .before .before in
     ((start .pre .0 .0, start .pre .0 .1, turn .step-at .ensures .1), turn .before .before .loop .inv .3)
 
@@ -63,7 +63,7 @@ next c =
 
 returns : tie.Need-returns Inv-loop μ-loop
 returns c =
-    let step = c .before .before .before .before .before in
+    let step = c .before .before .before .before in
     let head = step .before .before in
     let same = rows-same _ _ (twice-length _ (head .before .before .pre .0 .0)) (stepOf (step .step-at .result)) in (
       sym
@@ -74,20 +74,20 @@ returns c =
 
 reach-after-requires : tie.Need-reach-after-requires Inv-loop μ-loop
 reach-after-requires c κs =
-    let step = c .before .before .before .before .before in
+    let step = c .before .before .before .before in
     let reach = step .before .before .loop .inv .3 in
     (step .step-at .ensures .1, reach .0, reach .1)
 
 add-k : tie.Need-add-k Inv-loop μ-loop
-add-k c = omega (arith, c .before .before .before .before .before .before .before .loop-test .taken)
+add-k c = omega (arith, c .before .before .before .before .before .before .loop-test .taken)
 
 loop-less : tie.Need-loop-less Inv-loop μ-loop
-loop-less c = omega (arith, c .before .before .before .before .before .before .before .loop-test .taken)
+loop-less c = omega (arith, c .before .before .before .before .before .before .loop-test .taken)
 
 loop-again : tie.Need-loop-again Inv-loop μ-loop
 unfolding run
 loop-again c =
-    let step = c .before .before .before .before .before .before in
+    let step = c .before .before .before .before .before in
     let head = step .before .before in
     let called = c .before .before .lift-halves in
     let went = not-false _ (c .before .if1 .left) in

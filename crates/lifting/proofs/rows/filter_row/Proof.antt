@@ -1,4 +1,4 @@
--- `lifting::rows::filter_row` meets its contract: the buffers hold the row's halves, measured, and what the steps make of them is woven back.
+-- `lifting::rows::filter_row` meets its contract: the buffer holds the row's halves, measured, and what the steps make of them is woven back.
 -- Assumes nothing.
 use mathlib.Core.Path.{_≡_, sym, _∙_, subst}
 use mathlib.Core.Bool.{true, false≢true}
@@ -14,7 +14,7 @@ use Rattle.lines.specs.Buffers.{woven}
 use Rattle.lifting.specs.Filters.{filterOf}
 use Rattle.lifting.specs.Passes.{rows, allNewFit}
 use Rattle.lifting.specs.Layout.{halfPlace}
-use Rattle.lifting.proofs.HalfLaws.{halves-copied, half-measured}
+use Rattle.lifting.proofs.HalfLaws.{halves-copied, halves-measured}
 use Rattle.lifting.proofs.PlaneRows.{halfRow, row-told, row-entry, row-woven}
 use Rattle.lifting.proofs.rows.filter_row.Statement.{statement}
 use Rattle.lifting.proofs.rows.filter_row.Tie as tie
@@ -34,55 +34,54 @@ copy-measured-requires-2 c κs = search needs
 cast-high-most : tie.Need-cast-high-most
 cast-high-most c = search needs
 
-add-t21 : tie.Need-add-t21
-add-t21 c = record { fits = omega (arith, c .before .before .before .copy-measured .ok) }
+add-t20 : tie.Need-add-t20
+add-t20 c = record { fits = omega (arith, c .before .before .before .copy-measured .ok) }
 
-add-t22 : tie.Need-add-t22
-add-t22 c = record { fits = omega (arith, c .copy-measured2 .ok) }
+add-t21 : tie.Need-add-t21
+add-t21 c = record { fits = omega (arith, c .copy-measured2 .ok) }
 
 filter-halves-requires : tie.Need-filter-halves-requires
 filter-halves-requires c κs =
-    let second = c .before .before .before in
+    let second = c .before .before in
     let first = second .before .before .before in
     let start = first .before .before .before in
     let low = first .copy-measured in
-    let high = second .copy-measured2 in (
+    let high = second .copy-measured2 in
+    let within =
+    halves-measured (start .args .half) (start .args .place) (start .args .work .now) (start .args .halves .now) (low .last .0) (high .last .0) (start .pre .1) (omega arith)
+    (low .ensures .0) (high .ensures .0) (low .result) (high .result) (low .ensures .1) (high .ensures .1)
+    in (
       (start .pre .0, start .pre .1, start .pre .3),
-      (
-        omega (arith, low .ok),
-        omega (arith, high .ok),
-        half-measured (start .args .half) (start .args .place) (low .result) (start .args .work .now) (start .args .low .now) (low .last .0) (omega arith) (low .ensures .0) (low .ensures .1),
-        half-measured (start .args .half) (start .args .place + start .args .half) (high .result) (start .args .work .now) (start .args .high .now) (high .last .0) (omega arith) (high .ensures .0) (high .ensures .1),
-      ),
+      (omega (arith, low .ok), omega (arith, high .ok), within .0, within .1),
     )
 
 same-length : tie.Need-same-length
 same-length c = search needs
 
--- the buffers hold the row's halves
+-- the buffer holds the row's halves
 copied :
     (c : tie.After-copy-measured2) (x : ℕ)
     → let start = c .before .before .before .before .before .before in
     x < 2 * start .args .half
-    → woven (c .before .before .before .copy-measured .last .0) (c .copy-measured2 .last .0) x ≡ getD (start .args .work .now) (start .args .place + halfPlace (start .args .half) x) (pos 0)
+    → woven (c .copy-measured2 .last .0) x ≡ getD (start .args .work .now) (start .args .place + halfPlace (start .args .half) x) (pos 0)
 copied c =
     let first = c .before .before .before in
     let start = first .before .before .before in
-    halves-copied (start .args .half) (start .args .place) (start .args .work .now) (start .args .low .now) (start .args .high .now) _ _ (omega arith) (omega arith)
-    (first .copy-measured .ensures .0) (c .copy-measured2 .ensures .0)
+    halves-copied (start .args .half) (start .args .place) (start .args .work .now) (start .args .halves .now) (first .copy-measured .last .0) (c .copy-measured2 .last .0)
+    (start .pre .1) (omega arith) (first .copy-measured .ensures .0) (c .copy-measured2 .ensures .0)
 
 -- whether the row's new numbers fit
 told :
     (c : tie.After-filter-halves)
-    → let start = c .before .before .before .before .before .before .before .before .before .before in
+    → let start = c .before .before .before .before .before .before .before .before .before in
     c .filter-halves .result
     ≡ allNewFit 1 (2 * start .args .half) (map rows (filterOf (start .args .wavelet) .steps)) (halfRow (start .args .half) (start .args .place) (start .args .work .now))
 told c =
-    let second = c .before .before .before .before in
+    let second = c .before .before .before in
     let start = second .before .before .before .before .before .before in
     c .filter-halves .ensures .0
     ∙ row-told (filterOf (start .args .wavelet) .steps) (filterOf (start .args .wavelet) .shift) (start .args .half) (start .args .place) (start .pre .0) (start .args .work .now)
-    (second .before .before .before .copy-measured .last .0) (second .copy-measured2 .last .0) (copied second)
+    (second .copy-measured2 .last .0) (copied second)
 
 returns : tie.Need-returns
 returns c = (sym (not-true _ (c .if1 .taken)) ∙ told (c .before), (λ wrong. absurd (false≢true wrong), λ wrong. absurd (false≢true wrong)))
@@ -98,23 +97,23 @@ same-length-2 c = search needs
 
 returns-2 : tie.Need-returns-2
 returns-2 c =
-    let filtered = c .before .before .before .before .before .before .before in
-    let second = filtered .before .before .before .before in
+    let filtered = c .before .before .before .before .before .before in
+    let second = filtered .before .before .before in
     let start = second .before .before .before .before .before .before in
-    let went = not-false _ (c .before .before .before .before .before .before .if1 .left) in
+    let went = not-false _ (c .before .before .before .before .before .if1 .left) in
     let woven-is = c .before .weave .ensures in
     let asked = c .before .before .has-shift in (
       sym went ∙ told filtered,
       (
         λ fits. woven-is .0
             ∙ row-woven (filterOf (start .args .wavelet) .steps) (filterOf (start .args .wavelet) .shift) (start .args .half) (start .args .place) (start .pre .0) (start .args .work .now)
-            (second .before .before .before .copy-measured .last .0) (second .copy-measured2 .last .0) (copied second)
-            (asked .result) _ _ (asked .ensures) (filtered .filter-halves .ensures .1 went),
+            (second .copy-measured2 .last .0) (copied second)
+            (asked .result) _ (asked .ensures) (filtered .filter-halves .ensures .1 went),
         λ fits x inside.
             subst (λ (v : ℤ). fits32 v ≡ true)
             (row-entry (filterOf (start .args .wavelet) .steps) (filterOf (start .args .wavelet) .shift) (start .args .half) (start .args .place) (start .pre .0) (start .args .work .now)
-            (second .before .before .before .copy-measured .last .0) (second .copy-measured2 .last .0) (copied second)
-            (asked .result) _ _ (asked .ensures) (filtered .filter-halves .ensures .1 went) x inside)
+            (second .copy-measured2 .last .0) (copied second)
+            (asked .result) _ (asked .ensures) (filtered .filter-halves .ensures .1 went) x inside)
             (woven-is .1 x inside),
       ),
     )
@@ -128,8 +127,8 @@ filter-row-spec =
     add-copy-measured
     copy-measured-requires-2
     cast-high-most
+    add-t20
     add-t21
-    add-t22
     filter-halves-requires
     same-length
     returns

@@ -37,7 +37,7 @@ same-length-3 c = search needs
 returns-2 : tie.Need-returns-2
 returns-2 c =
     let called = c .before .before .before .before .before .before .before .before .before .filter-row in
-    let start = c .before .before .before .before .before .before .before .before .before .before .before .before .before .before in
+    let start = c .before .before .before .before .before .before .before .before .before .before .before .before .before in
     let went = not-false _ (c .before .before .before .before .before .before .before .if1 .left) in
     let woven = called .ensures .1 .0 went in (
       sym went ∙ called .ensures .0,

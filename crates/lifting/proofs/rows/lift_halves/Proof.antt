@@ -2,56 +2,50 @@
 -- Assumes nothing.
 use mathlib.Core.Path.{sym, _∙_}
 use mathlib.Core.Bool.{true, false}
-use Rattle.lifting.specs.Reach.{reachOf}
+use native.Mathlib.Omega.{arith}
 use Rattle.lifting.proofs.HalfLaws.{halves-new, halves-lifted, halves-before, halves-after}
 use Rattle.lifting.proofs.rows.lift_halves.Statement.{statement}
 use Rattle.lifting.proofs.rows.lift_halves.Tie as tie
 
 lift-half-requires : tie.Need-lift-half-requires
 lift-half-requires c κs =
-    let start = c .before .before .before .before in
+    let start = c .before .before .before in
     let args = start .args in
     let reach = start .pre .1 in
-    let halves = halves-before (args .step) (args .half) true (c .before .before .before .if1 .taken) (args .reach) (args .low .now) (args .high .now) reach in
-    (start .pre .0, (reach .0, reach .1, halves .0, halves .1))
+    let within = halves-before (args .step) (args .half) true (c .before .before .if1 .taken) (args .reach) (args .halves .now) reach in
+    (start .pre .0, ((omega arith, omega arith, λ i j h k. omega arith), (reach .0, reach .1, within .0, within .1)))
 
 lift-half-requires-2 : tie.Need-lift-half-requires-2
 lift-half-requires-2 c κs =
-    let start = c .before .before .before .before in
+    let start = c .before .before .before in
     let args = start .args in
     let reach = start .pre .1 in
-    let halves = halves-before (args .step) (args .half) false (c .before .before .before .if1 .left) (args .reach) (args .low .now) (args .high .now) reach in
-    (start .pre .0, (reach .0, reach .1, halves .0, halves .1))
+    let within = halves-before (args .step) (args .half) false (c .before .before .if1 .left) (args .reach) (args .halves .now) reach in
+    (start .pre .0, ((omega arith, omega arith, λ i j h k. omega arith), (reach .0, reach .1, within .0, within .1)))
 
 returns : tie.Need-returns
-unfolding reachOf
 returns c =
-    let even = c .before .before .before .before .if1 .taken in
-    let start = c .before .before .before .before .before in
+    let even = c .before .before .before .if1 .taken in
+    let start = c .before .before .before .before in
     let args = start .args in
-    let reach = start .pre .1 in
-    let halves = halves-before (args .step) (args .half) true even (args .reach) (args .low .now) (args .high .now) reach in
     let lifted = c .lift-half .ensures in (
-      lifted .0 ∙ sym (halves-new (args .step) (args .half) (args .low .now) (args .high .now) true even),
+      lifted .0 ∙ sym (halves-new (args .step) (args .half) (args .halves .now) true even),
       (
-        λ fits. halves-lifted (args .step) (args .half) (args .low .now) (args .high .now) true even _ _ (lifted .1 .0 fits) (lifted .1 .1 .0),
-        λ fits. halves-after (args .step) (args .half) true even (args .reach) (args .high .now) (c .lift-half .last .0) (c .lift-half .last .1 .0) (reach .0) (reach .1) (halves .1) (lifted .1 .1 .0) (lifted .1 .1 .1 fits),
+        λ fits. halves-lifted (args .step) (args .half) (args .halves .now) true even _ (lifted .1 .0 fits) (lifted .1 .1 .0 fits),
+        λ fits. halves-after (args .step) (args .half) true even (args .reach) (args .halves .now) (c .lift-half .last .0) (start .pre .1) (lifted .1 .1 .0 fits) (lifted .1 .1 .1 fits),
       ),
     )
 
 returns-2 : tie.Need-returns-2
-unfolding reachOf
 returns-2 c =
-    let odd = c .before .before .before .before .if1 .left in
-    let start = c .before .before .before .before .before in
+    let odd = c .before .before .before .if1 .left in
+    let start = c .before .before .before .before in
     let args = start .args in
-    let reach = start .pre .1 in
-    let halves = halves-before (args .step) (args .half) false odd (args .reach) (args .low .now) (args .high .now) reach in
     let lifted = c .lift-half2 .ensures in (
-      lifted .0 ∙ sym (halves-new (args .step) (args .half) (args .high .now) (args .low .now) false odd),
+      lifted .0 ∙ sym (halves-new (args .step) (args .half) (args .halves .now) false odd),
       (
-        λ fits. halves-lifted (args .step) (args .half) (args .high .now) (args .low .now) false odd _ _ (lifted .1 .0 fits) (lifted .1 .1 .0),
-        λ fits. halves-after (args .step) (args .half) false odd (args .reach) (args .low .now) (c .lift-half2 .last .0) (c .lift-half2 .last .1 .0) (reach .0) (reach .1) (halves .1) (lifted .1 .1 .0) (lifted .1 .1 .1 fits),
+        λ fits. halves-lifted (args .step) (args .half) (args .halves .now) false odd _ (lifted .1 .0 fits) (lifted .1 .1 .0 fits),
+        λ fits. halves-after (args .step) (args .half) false odd (args .reach) (args .halves .now) (c .lift-half2 .last .0) (start .pre .1) (lifted .1 .1 .0 fits) (lifted .1 .1 .1 fits),
       ),
     )
 

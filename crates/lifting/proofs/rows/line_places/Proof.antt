@@ -9,10 +9,10 @@ use Rattle.lifting.proofs.rows.line_places.Statement.{statement}
 use Rattle.lifting.proofs.rows.line_places.Tie as tie
 
 abbrev Inv-loop : tie.InvT-loop
-Inv-loop lead places₀ t₀ places t = (t ≤ 8) × (places ≡ fill places₀ 0 t (λ k. lead + k))
+Inv-loop first places₀ t₀ places t = (t ≤ 8) × (places ≡ fill places₀ 0 t (λ k. first + k))
 
 abbrev μ-loop : tie.MeasureT-loop
-μ-loop lead places₀ t₀ places t = 8 - t
+μ-loop first places₀ t₀ places t = 8 - t
 
 loop-holds : tie.Need-loop-holds Inv-loop μ-loop
 loop-holds c = (omega arith, sym (fill-none _ 0 _))

@@ -18,12 +18,12 @@ use Rattle.lines.proofs.buffers.weave.Statement.{statement}
 use Rattle.lines.proofs.buffers.weave.Tie as tie
 
 abbrev Inv-loop : tie.InvT-loop
-Inv-loop plane₀ place low high half shift x₀ plane x =
-    (x ≤ half) × (length plane ≡ length plane₀) × (plane ≡ fill plane₀ place (2 * x) (λ k. shifted shift (woven low high k)))
-    × ((k : ℕ) → k < 2 * x → fits32 (shifted shift (woven low high k)) ≡ true)
+Inv-loop plane₀ place halves half shift x₀ plane x =
+    (x ≤ half) × (length plane ≡ length plane₀) × (plane ≡ fill plane₀ place (2 * x) (λ k. shifted shift (woven halves k)))
+    × ((k : ℕ) → k < 2 * x → fits32 (shifted shift (woven halves k)) ≡ true)
 
 abbrev μ-loop : tie.MeasureT-loop
-μ-loop plane₀ place low high half shift x₀ plane x = half - x
+μ-loop plane₀ place halves half shift x₀ plane x = half - x
 
 loop-holds : tie.Need-loop-holds Inv-loop μ-loop
 loop-holds c = (omega arith, refl, sym (fill-none _ _ _), λ k below. absurd (omega arith))
@@ -64,17 +64,17 @@ element-copy-out-shift-down-2 c = omega arith
 shift-down-requires-2 : tie.Need-shift-down-requires-2 Inv-loop μ-loop
 shift-down-requires-2 c κs = tt
 
-mul-t15 : tie.Need-mul-t15 Inv-loop μ-loop
-mul-t15 c = omega arith
-
-add-t11 : tie.Need-add-t11 Inv-loop μ-loop
-add-t11 c = omega arith
+mul-t14 : tie.Need-mul-t14 Inv-loop μ-loop
+mul-t14 c = omega arith
 
 add-t10 : tie.Need-add-t10 Inv-loop μ-loop
 add-t10 c = omega arith
 
-mul-t21 : tie.Need-mul-t21 Inv-loop μ-loop
-mul-t21 c = omega arith
+add-t9 : tie.Need-add-t9 Inv-loop μ-loop
+add-t9 c = omega arith
+
+mul-t20 : tie.Need-mul-t20 Inv-loop μ-loop
+mul-t20 c = omega arith
 
 slice-set-from-plane-2 : tie.Need-slice-set-from-plane-2 Inv-loop μ-loop
 slice-set-from-plane-2 c = simp length-set (omega arith)
@@ -87,7 +87,7 @@ loop-less c = omega arith
 
 -- the numbers that the plane is to have, and that each turn makes two of them
 abbrev wanted : tie.At-loop Inv-loop μ-loop → ℕ → ℤ
-wanted c k = shifted (c .before .args .shift) (woven (c .before .args .low .now) (c .before .args .high .now) k)
+wanted c k = shifted (c .before .args .shift) (woven (c .before .args .halves .now) k)
 
 even : (c : tie.After-shift-down Inv-loop μ-loop) → toZ w32 (ofZ w32 (c .shift-down .result)) ≡ wanted (c .before .before .before) (2 * c .before .before .before .loop .x)
 even c =
@@ -96,8 +96,8 @@ even c =
     back w32 (c .shift-down .result) (c .shift-down .ok)
     ∙ c .shift-down .ensures
     ∙ rw (
-      back w32 (getD (start .args .low .now) (4 + head .loop .x) (pos 0)) (c .before .shift-down-arg .given),
-      woven-even (start .args .low .now) (start .args .high .now) (head .loop .x),
+      back w32 (getD (start .args .halves .now) (4 + head .loop .x) (pos 0)) (c .before .shift-down-arg .given),
+      woven-even (start .args .halves .now) (head .loop .x),
     )
     refl
 
@@ -108,8 +108,8 @@ odd c =
     back w32 (c .shift-down2 .result) (c .shift-down2 .ok)
     ∙ c .shift-down2 .ensures
     ∙ rw (
-      back w32 (getD (start .args .high .now) (4 + head .loop .x) (pos 0)) (c .before .shift-down-arg2 .given),
-      woven-odd (start .args .low .now) (start .args .high .now) (head .loop .x),
+      back w32 (getD (start .args .halves .now) (2060 + head .loop .x) (pos 0)) (c .before .shift-down-arg2 .given),
+      woven-odd (start .args .halves .now) (head .loop .x),
     )
     refl
 
@@ -156,10 +156,10 @@ weave-spec =
     mul-shift-down-2
     element-copy-out-shift-down-2
     shift-down-requires-2
-    mul-t15
-    add-t11
+    mul-t14
     add-t10
-    mul-t21
+    add-t9
+    mul-t20
     slice-set-from-plane-2
     add-x
     loop-less

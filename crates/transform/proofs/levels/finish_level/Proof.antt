@@ -97,15 +97,15 @@ returns c =
 finish-rows-requires : tie.Need-finish-rows-requires
 unfolding sizeAt
 finish-rows-requires c κs =
-    let framed = c .before .before .before .before .before .before .before .before .before .before .before .before .before in
+    let framed = c .before .before .before .before .before .before .before .before .before .before .before .before in
     let start = framed .before in
     let told = framed .next-frame .ensures in (
-      (placed-in framed _ (c .before .before .before .before .before .before .before .filter-columns .kept .0 ∙ c .before .before .before .before .before .before .before .before .before .before .before .interleave-bands .kept .0), start .pre .0 .2),
+      (placed-in framed _ (c .before .before .before .before .before .before .filter-columns .kept .0 ∙ c .before .before .before .before .before .before .before .before .before .before .interleave-bands .kept .0), start .pre .0 .2),
       (rw (told .2) (start .pre .1 .0), rw (told .1) (start .pre .1 .1), start .pre .1 .2),
     )
 
 same-length-2 : tie.Need-same-length-2
-same-length-2 c = c .before .before .finish-rows .kept .0 ∙ c .before .before .before .before .before .before .before .before .before .before .filter-columns .kept .0 ∙ c .before .before .before .before .before .before .before .before .before .before .before .before .before .before .interleave-bands .kept .0
+same-length-2 c = c .before .before .finish-rows .kept .0 ∙ c .before .before .before .before .before .before .before .before .before .filter-columns .kept .0 ∙ c .before .before .before .before .before .before .before .before .before .before .before .before .before .interleave-bands .kept .0
 
 same-length-3 : tie.Need-same-length-3
 same-length-3 c = c .before .before .finish-rows .kept .1 .0
@@ -113,17 +113,17 @@ same-length-3 c = c .before .before .finish-rows .kept .1 .0
 returns-2 : tie.Need-returns-2
 unfolding sizeAt halvesOf pictureOf
 returns-2 c =
-    let framed = c .before .before .before .before .before .before .before .before .before .before .before .before .before .before .before .before in
+    let framed = c .before .before .before .before .before .before .before .before .before .before .before .before .before .before .before in
     let start = framed .before in
     let frame = framed .next-frame .result in
     let told = framed .next-frame .ensures in
-    let bands = c .before .before .before .before .before .before .before .before .before .before .before .before .before .before .interleave-bands in
+    let bands = c .before .before .before .before .before .before .before .before .before .before .before .before .before .interleave-bands in
     let sizes = placed-in framed (start-work framed) refl in
     let filter = filterOf (start .args .wavelet) in
-    let columns-ok = c .before .before .before .before .before .before .before .before .before .before .filter-columns in
+    let columns-ok = c .before .before .before .before .before .before .before .before .before .filter-columns in
     let rows-ok = c .before .before .finish-rows in
-    let passed = sym (columns-ok .ensures .0) ∙ not-false _ (c .before .before .before .before .before .before .before .before .if1 .left) in
-    let after = columns-ok .ensures .1 (not-false _ (c .before .before .before .before .before .before .before .before .if1 .left)) in
+    let passed = sym (columns-ok .ensures .0) ∙ not-false _ (c .before .before .before .before .before .before .before .if1 .left) in
+    let after = columns-ok .ensures .1 (not-false _ (c .before .before .before .before .before .before .before .if1 .left)) in
     let fewer-rows = start .pre .1 .1 in
     let fewer-columns = start .pre .1 .0 in (
       by-extent framed
