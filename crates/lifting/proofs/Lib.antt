@@ -9,3 +9,4 @@ pub mod PairLaws
 pub mod RowLaws
 pub mod HalfLaws
 pub mod PlaneRows
+pub mod FilterFits

@@ -28,7 +28,6 @@ use crate::filters::step_count;
 use crate::reach::Reach;
 use crate::reach::reach_after;
 use crate::reach::stays_small;
-use base::plane::copy;
 use base::plane::zero_part;
 use lines::buffers::extend;
 use lines::buffers::weave;
@@ -98,13 +97,12 @@ fn finish_row(
     requires { ⌜ (count ≤ 2 * half) × (to + count ≤ length (now samples)) ⌝ }
     ensures told { λ r. ⌜ r ≡ allNewFit 1 (2 * half) (map rows (filterOf wavelet .steps)) (λ row x. getD (now (work .entry)) (place + halfPlace half x) (pos 0)) ⌝ }
     ensures done { λ r. ⌜ (r ≡ true → now (samples .exit) ≡ fill (now (samples .entry)) to count (λ x. shifted (filterOf wavelet .shift) (runAll 1 (2 * half) (map rows (filterOf wavelet .steps)) (λ row k. getD (now (work .entry)) (place + halfPlace half k) (pos 0)) 0 x))) ⌝ }
-    ensures fit { λ r. ⌜ (r ≡ true → (x : ℕ) → x < 2 * half → fits32 (shifted (filterOf wavelet .shift) (runAll 1 (2 * half) (map rows (filterOf wavelet .steps)) (λ row k. getD (now (work .entry)) (place + halfPlace half k) (pos 0)) 0 x)) ≡ true) ⌝ }
     ensures cleared { λ r. ⌜ (r ≡ true → now (work .exit) ≡ fill (now (work .entry)) place (2 * half) (λ x. pos 0)) ⌝ }
 {
-    if !filter_row(work, place, halves, sums, half, wavelet) {
+    if !filter_row_halves(work, place, halves, sums, half, wavelet) {
         return false;
     }
-    copy(samples, to, work, place, count);
+    weave(samples, to, halves, count, has_shift(wavelet));
     zero_part(work, place, 2 * half);
     true
 }
@@ -159,7 +157,26 @@ fn filter_row(
     requires { ⌜ (1 ≤ half) × (half ≤ 2048) × (place + 2 * half ≤ length (now work)) × (wavelet ≤ 6) ⌝ }
     ensures told { λ r. ⌜ r ≡ allNewFit 1 (2 * half) (map rows (filterOf wavelet .steps)) (λ row x. getD (now (work .entry)) (place + halfPlace half x) (pos 0)) ⌝ }
     ensures done { λ r. ⌜ (r ≡ true → now (work .exit) ≡ fill (now (work .entry)) place (2 * half) (λ x. shifted (filterOf wavelet .shift) (runAll 1 (2 * half) (map rows (filterOf wavelet .steps)) (λ row k. getD (now (work .entry)) (place + halfPlace half k) (pos 0)) 0 x))) ⌝ }
-    ensures fit { λ r. ⌜ (r ≡ true → (x : ℕ) → x < 2 * half → fits32 (shifted (filterOf wavelet .shift) (runAll 1 (2 * half) (map rows (filterOf wavelet .steps)) (λ row k. getD (now (work .entry)) (place + halfPlace half k) (pos 0)) 0 x)) ≡ true) ⌝ }
+{
+    if !filter_row_halves(work, place, halves, sums, half, wavelet) {
+        return false;
+    }
+    weave(work, place, halves, 2 * half, has_shift(wavelet));
+    true
+}
+
+// Copies the two halves of the row that starts at a place of the plane into the line buffer, and runs the steps of a filter on them there.
+fn filter_row_halves(
+    work: &[i32],
+    place: usize,
+    halves: &mut [i32; 4112],
+    sums: &mut [i32; 4096],
+    half: usize,
+    wavelet: usize,
+) -> bool
+    requires { ⌜ (1 ≤ half) × (half ≤ 2048) × (place + 2 * half ≤ length (now work)) × (wavelet ≤ 6) ⌝ }
+    ensures told { λ r. ⌜ r ≡ allNewFit 1 (2 * half) (map rows (filterOf wavelet .steps)) (λ row x. getD (now (work .entry)) (place + halfPlace half x) (pos 0)) ⌝ }
+    ensures done { λ r. ⌜ (r ≡ true → (x : ℕ) → x < 2 * half → woven (now (halves .exit)) x ≡ runAll 1 (2 * half) (map rows (filterOf wavelet .steps)) (λ row k. getD (now (work .entry)) (place + halfPlace half k) (pos 0)) 0 x) ⌝ }
 {
     let low_most = copy_measured(halves, 4, work, place, half) as u64;
     let high_most = copy_measured(halves, 2060, work, place + half, half) as u64;
@@ -167,11 +184,7 @@ fn filter_row(
         even: low_most + 1,
         odd: high_most + 1,
     };
-    if !filter_halves(halves, sums, half, wavelet, reach) {
-        return false;
-    }
-    weave(work, place, halves, half, has_shift(wavelet));
-    true
+    filter_halves(halves, sums, half, wavelet, reach)
 }
 
 // Runs the steps of a filter on a row whose even and odd places stand as the two halves in the line buffer, each within its reach.

@@ -1,10 +1,12 @@
 -- Laws of the line buffer: the ends of a half repeated, the entries of a woven row, and a number halved with the half rounded up.
 -- Assumes nothing.
-use mathlib.Core.Path.{_≡_, refl, sym, ap, _∙_, subst}
+use mathlib.Core.Path.{_≡_, refl, ap, _∙_}
+use mathlib.Core.Bool.{Bool, true, false}
 use mathlib.Core.Logic.{_≢_}
 use mathlib.Core.List.{List}
 use Prim.Native.Nat.{ℕ, zero, suc, _+_, _-_, _*_, _/_, _%_, _≤_, _<_, min}
-use native.Mathlib.Decide.{decLt, ℕ-discrete}
+use native.Mathlib.Decide.{decLt}
+use native.Mathlib.Nat.{lt-of-le-of-lt}
 use native.Mathlib.Omega.{arith}
 use borrow.Author.Tests.{lt-ltb, le-ltb, eq-eqb, ne-eqb}
 use lib.IntN.{ℤ, pos, negsuc, _+ℤ_, _-ℤ_}
@@ -12,8 +14,10 @@ use lib.ListN.{length, getD, set}
 use lib.Signed.{mag}
 use Rattle.base.specs.Fill.{fill}
 use Rattle.base.specs.Floor.{floorDiv}
+use Rattle.base.specs.Range.{fits32}
 use Rattle.base.proofs.Fills.{fill-none, fill-more, length-fill, getD-fill-in, getD-fill-out, set-fill-out}
-use Rattle.lines.specs.Buffers.{heldEntry, woven}
+use Rattle.base.proofs.Ranges.{fits32-below, below-fits32}
+use Rattle.lines.specs.Buffers.{heldEntry, woven, shifted}
 
 -- a difference of natural numbers that is not below 0
 pos-less : (a b : ℕ) → b ≤ a → pos a -ℤ pos b ≡ pos (a - b)
@@ -32,6 +36,12 @@ pub half-small : (v : ℤ) → mag (floorDiv (v +ℤ pos 1) 2) ≤ mag v
 half-small (pos n) = omega arith
 half-small (negsuc zero) = omega arith
 half-small (negsuc (suc n)) = rw (lt-ltb 1 (suc (suc n)) (omega arith)) (omega arith)
+
+-- and so a number that fits still fits when it is shifted
+pub shifted-fits : (shift : Bool) (v : ℤ) → fits32 v ≡ true → fits32 (shifted shift v) ≡ true
+unfolding shifted
+shifted-fits true v fits = below-fits32 (floorDiv (v +ℤ pos 1) 2) (lt-of-le-of-lt (half-small v) (fits32-below v fits))
+shifted-fits false v fits = fits
 
 -- a line with n entries repeated on either side of the half of b entries behind a base
 abbrev pub ends : List ℤ → ℕ → ℕ → ℕ → ℤ → ℤ → List ℤ
@@ -104,17 +114,3 @@ pub fill-two : (l : List ℤ) (d : ℕ) (f : ℕ → ℤ) (x i j : ℕ) → i �
 fill-two l d f x i j at₁ at₂ =
     let two : 2 * (x + 1) ≡ 2 * x + 1 + 1 = omega arith in
     rw (fill-more l d f (2 * x) i at₁, two) (fill-more l d f (2 * x + 1) j (omega arith))
-
--- what holds of the places passed, and of two more
-pub two-more : (P : ℕ → Type 0) (x : ℕ) → ((k : ℕ) → k < 2 * x → P k) → P (2 * x) → P (2 * x + 1) → (k : ℕ) → k < 2 * (x + 1) → P k
-two-more P x before even odd k below =
-    elim (decLt k (2 * x)) [
-      | yes earlier ↦ before k earlier
-      | no later ↦
-          elim (ℕ-discrete k (2 * x)) [
-            | yes here ↦ subst P (sym here) even
-            | no other ↦
-                let next : 2 * x + 1 ≡ k = omega arith in
-                subst P next odd
-          ]
-    ]

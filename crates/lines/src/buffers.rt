@@ -1,12 +1,10 @@
 // The line buffer that holds the two halves of a row: the low one from entry 4 on, the high one from entry 2060 on.
 ghost use mathlib.Core.Path.{_≡_};
-ghost use mathlib.Core.Bool.{true};
 ghost use mathlib.Core.Logic.{_≢_};
 ghost use Prim.Native.Nat.{ℕ, _+_, _*_, _≤_, _<_};
 ghost use lib.IntN.{pos};
 ghost use lib.ListN.{length, getD};
 ghost use Rattle.base.specs.Fill.{fill};
-ghost use Rattle.base.specs.Range.{fits32};
 ghost use Rattle.lines.specs.Buffers.{heldEntry, woven, shifted};
 
 // Repeats the first and the last entry of the half that stands behind a base four times on either side of it. The rest stays.
@@ -27,14 +25,25 @@ pub fn extend(halves: &mut [i32; 4112], base: usize, half: usize)
     }
 }
 
-// Weaves the two halves of a row into a plane from a place on, shifted if asked for.
-pub fn weave(plane: &mut [i32], place: usize, halves: &[i32; 4112], half: usize, shift: bool)
-    requires { ⌜ (half ≤ 2048) × (place + 2 * half ≤ length (now plane)) ⌝ }
-    ensures stored { λ _. ⌜ now (plane .exit) ≡ fill (now (plane .entry)) place (2 * half) (λ x. shifted shift (woven (now (halves .entry)) x)) ⌝ }
-    ensures fit { λ _. ⌜ ((x : ℕ) → x < 2 * half → fits32 (shifted shift (woven (now (halves .entry)) x)) ≡ true) ⌝ }
+// Weaves the two halves of a row: stores its first `count` numbers in a plane from a place on, shifted if asked for.
+pub fn weave(plane: &mut [i32], place: usize, halves: &[i32; 4112], count: usize, shift: bool)
+    requires { ⌜ (count ≤ 4096) × (place + count ≤ length (now plane)) ⌝ }
+    ensures { λ _. ⌜ now (plane .exit) ≡ fill (now (plane .entry)) place count (λ x. shifted shift (woven (now (halves .entry)) x)) ⌝ }
+{
+    let pairs = count / 2;
+    weave_pairs(plane, place, halves, pairs, shift);
+    if count % 2 == 1 {
+        plane[place + 2 * pairs] = shift_down(halves[4 + pairs], shift);
+    }
+}
+
+// The same for pairs of numbers, one of either half.
+fn weave_pairs(plane: &mut [i32], place: usize, halves: &[i32; 4112], pairs: usize, shift: bool)
+    requires { ⌜ (pairs ≤ 2048) × (place + 2 * pairs ≤ length (now plane)) ⌝ }
+    ensures { λ _. ⌜ now (plane .exit) ≡ fill (now (plane .entry)) place (2 * pairs) (λ x. shifted shift (woven (now (halves .entry)) x)) ⌝ }
 {
     let mut x = 0;
-    while x < half {
+    while x < pairs {
         plane[place + 2 * x] = shift_down(halves[4 + x], shift);
         plane[place + 2 * x + 1] = shift_down(halves[2060 + x], shift);
         x += 1;

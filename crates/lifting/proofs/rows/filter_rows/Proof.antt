@@ -8,13 +8,14 @@ use borrow.Author.Tests.{not-true, not-false}
 use lib.ListN.{length}
 use Rattle.lifting.specs.Filters.{filterOf}
 use Rattle.lifting.proofs.Frames.{row-inside}
-use Rattle.lifting.proofs.PlaneRows.{RowsDone, RowsMet, rows-none, rows-told, rows-done, rows-small, rows-fail, rows-more, rows-put}
+use Rattle.lifting.proofs.FilterFits.{filter-fits}
+use Rattle.lifting.proofs.PlaneRows.{RowsDone, RowsMet, rows-none, rows-told, rows-done, rows-fail, rows-more, rows-put}
 use Rattle.lifting.proofs.rows.filter_rows.Statement.{statement}
 use Rattle.lifting.proofs.rows.filter_rows.Tie as tie
 
 abbrev Inv-loop : tie.InvT-loop
 Inv-loop work₀ halves₀ sums₀ wavelet half stride height row₀ work halves sums row =
-    (row ≤ height) × (length work ≡ length work₀) × RowsMet (filterOf wavelet .steps) (filterOf wavelet .shift) half stride work₀ work row
+    (row ≤ height) × (length work ≡ length work₀) × RowsMet (filterOf wavelet .steps) half stride work₀ work row
     × RowsDone (filterOf wavelet .steps) (filterOf wavelet .shift) half stride work₀ stride (2 * half) work row
 
 abbrev μ-loop : tie.MeasureT-loop
@@ -26,7 +27,7 @@ mul-height c = omega (arith, c .before .pre .0 .rows-most)
 loop-holds : tie.Need-loop-holds Inv-loop μ-loop
 loop-holds c =
     let start = c .before in
-    (omega arith, refl, rows-none _ _ _ _ (start .pre .0 .columns-least) (start .pre .0 .apart) _, λ r x h. absurd (omega arith))
+    (omega arith, refl, rows-none _ _ _ (start .pre .0 .columns-least) (start .pre .0 .apart) _, λ r x h. absurd (omega arith))
 
 -- a row of the picture lies in the plane
 inside :
@@ -57,7 +58,7 @@ returns c =
     let head = turn .before in
     let start = head .before .before in (
       sym
-          (rows-fail _ (filterOf (start .args .wavelet) .shift) _ _ (start .pre .0 .columns-least) (start .pre .0 .apart) _ (head .loop .work) (head .loop .row) (head .loop .inv .2)
+          (rows-fail _ _ _ (start .pre .0 .columns-least) (start .pre .0 .apart) _ (head .loop .work) (head .loop .row) (head .loop .inv .2)
           (2 * start .args .frame .«band_rows») (turn .loop-test .taken)
           (sym (c .before .before .filter-row .ensures .0) ∙ not-true _ (c .if1 .taken))),
       (λ wrong. absurd (false≢true wrong), λ wrong. absurd (false≢true wrong)),
@@ -80,10 +81,10 @@ loop-again c =
     let went = not-false _ (c .if1 .left) in (
       omega (arith, turn .loop-test .taken),
       called .kept .0 ∙ head .loop .inv .1,
-      rows-more _ _ _ _ (start .pre .0 .columns-least) (start .pre .0 .apart) _ (head .loop .work) (head .loop .row) (head .loop .inv .2) _ _
-          (called .ensures .1 .0 went) (sym (called .ensures .0) ∙ went) (called .ensures .1 .1 went),
-      rows-put _ _ _ _ (start .pre .0 .columns-least) (start .pre .0 .apart) _ (head .loop .work) (head .loop .row) (head .loop .inv .2) _ _ _ _
-          (start .pre .0 .apart) (omega arith) (inside turn) (called .ensures .1 .0 went) (head .loop .inv .3),
+      rows-more _ _ _ (start .pre .0 .columns-least) (start .pre .0 .apart) _ (head .loop .work) (head .loop .row) (head .loop .inv .2) _ _
+          (called .ensures .1 went) (sym (called .ensures .0) ∙ went),
+      rows-put _ _ _ (start .pre .0 .columns-least) (start .pre .0 .apart) _ (head .loop .work) (head .loop .row) (head .loop .inv .2) _ _ _ _ _
+          (start .pre .0 .apart) (omega arith) (inside turn) (called .ensures .1 went) (head .loop .inv .3),
     )
 
 same-length-2 : tie.Need-same-length-2 Inv-loop μ-loop
@@ -94,12 +95,12 @@ returns-2 c =
     let head = c .before in
     let start = head .before .before in
     let all : head .loop .row ≡ 2 * start .args .frame .«band_rows» = omega (arith, c .loop-test .left, head .loop .inv .0) in
-    let met = rw all at (head .loop .inv .2) in (
-      sym (rows-told _ _ _ _ (start .pre .0 .columns-least) (start .pre .0 .apart) _ (2 * start .args .frame .«band_rows») (head .loop .work) met),
+    let told = rows-told _ _ _ (start .pre .0 .columns-least) (start .pre .0 .apart) _ (2 * start .args .frame .«band_rows») (head .loop .work) (rw all at (head .loop .inv .2)) in (
+      sym told,
       (
-        λ fits. rows-done (filterOf (start .args .wavelet) .steps) _ _ _ (start .pre .0 .columns-least) (start .pre .0 .apart) (start .args .work .now) _ _ _ _ (head .loop .work)
+        λ fits. rows-done (filterOf (start .args .wavelet) .steps) _ _ (start .pre .0 .columns-least) (start .pre .0 .apart) (start .args .work .now) _ _ _ _ _ (head .loop .work)
             (rw all at (head .loop .inv .3)),
-        λ fits. rows-small _ _ _ _ (start .pre .0 .columns-least) (start .pre .0 .apart) _ (2 * start .args .frame .«band_rows») (head .loop .work) met,
+        λ fits. filter-fits _ _ (start .args .wavelet) _ _ (start .pre .1) told,
       ),
     )
 

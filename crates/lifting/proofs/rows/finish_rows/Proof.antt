@@ -12,14 +12,15 @@ use lib.ListN.{length, getD}
 use Rattle.lifting.specs.Filters.{filterOf}
 use Rattle.base.proofs.Grids.{rows-stored}
 use Rattle.lifting.proofs.Frames.{row-inside}
-use Rattle.lifting.proofs.PlaneRows.{RowsDone, RowsMet, crop-room, rows-none, rows-told, rows-done, rows-small, rows-fail, rows-more, rows-cropped}
+use Rattle.lifting.proofs.FilterFits.{filter-fits}
+use Rattle.lifting.proofs.PlaneRows.{RowsDone, RowsMet, crop-room, rows-none, rows-told, rows-done, rows-fail, rows-more, rows-cropped}
 use Rattle.lifting.proofs.rows.finish_rows.Statement.{statement}
 use Rattle.lifting.proofs.rows.finish_rows.Tie as tie
 
 abbrev Inv-loop : tie.InvT-loop
 Inv-loop work₀ samples₀ halves₀ sums₀ wavelet width height half stride rows row₀ work samples halves sums row =
     (row ≤ rows) × (length work ≡ length work₀) × (length samples ≡ length samples₀)
-    × RowsMet (filterOf wavelet .steps) (filterOf wavelet .shift) half stride work₀ work row
+    × RowsMet (filterOf wavelet .steps) half stride work₀ work row
     × RowsDone (filterOf wavelet .steps) (filterOf wavelet .shift) half stride work₀ width width samples (min row height)
     × ((r x : ℕ) → r < row → x < 2 * half → getD work (r * stride + x) (pos 0) ≡ pos 0)
 
@@ -32,7 +33,7 @@ mul-rows c = omega (arith, c .before .pre .0 .0 .rows-most)
 loop-holds : tie.Need-loop-holds Inv-loop μ-loop
 loop-holds c =
     let start = c .before in
-    (omega arith, refl, refl, rows-none _ _ _ _ (start .pre .0 .0 .columns-least) (start .pre .0 .0 .apart) _, λ r x h. absurd (omega arith), λ r x h. absurd (omega arith))
+    (omega arith, refl, refl, rows-none _ _ _ (start .pre .0 .0 .columns-least) (start .pre .0 .0 .apart) _, λ r x h. absurd (omega arith), λ r x h. absurd (omega arith))
 
 kept-columns-requires : tie.Need-kept-columns-requires Inv-loop μ-loop
 kept-columns-requires c κs = search needs
@@ -87,7 +88,7 @@ returns c =
     let head = turn .before in
     let start = head .before .before in (
       sym
-          (rows-fail _ (filterOf (start .args .wavelet) .shift) _ _ (start .pre .0 .0 .columns-least) (start .pre .0 .0 .apart) _ (head .loop .work) (head .loop .row) (head .loop .inv .3)
+          (rows-fail _ _ _ (start .pre .0 .0 .columns-least) (start .pre .0 .0 .apart) _ (head .loop .work) (head .loop .row) (head .loop .inv .3)
           (2 * start .args .frame .«band_rows») (turn .loop-test .taken)
           (sym (c .before .before .before .finish-row .ensures .0) ∙ not-true _ (c .if1 .taken))),
       (λ wrong. absurd (false≢true wrong), (λ wrong. absurd (false≢true wrong), λ wrong. absurd (false≢true wrong))),
@@ -109,14 +110,14 @@ loop-again c =
     let start = head .before .before in
     let called = c .before .before .before .finish-row in
     let went = not-false _ (c .if1 .left) in
-    let zeroed = called .ensures .1 .1 .1 went in (
+    let zeroed = called .ensures .1 .1 went in (
       omega (arith, turn .loop-test .taken),
       called .kept .0 ∙ head .loop .inv .1,
       called .kept .1 .1 .0 ∙ head .loop .inv .2,
-      rows-more _ _ _ _ (start .pre .0 .0 .columns-least) (start .pre .0 .0 .apart) _ (head .loop .work) (head .loop .row) (head .loop .inv .3) _ _
-          zeroed (sym (called .ensures .0) ∙ went) (called .ensures .1 .1 .0 went),
-      rows-cropped _ _ _ _ (start .pre .0 .0 .columns-least) (start .pre .0 .0 .apart) _ (head .loop .work) (head .loop .row) (head .loop .inv .3)
-          (start .args .height) (start .args .width) (kept .kept-columns .result) (head .loop .samples) _
+      rows-more _ _ _ (start .pre .0 .0 .columns-least) (start .pre .0 .0 .apart) _ (head .loop .work) (head .loop .row) (head .loop .inv .3) _ _
+          zeroed (sym (called .ensures .0) ∙ went),
+      rows-cropped _ _ _ (start .pre .0 .0 .columns-least) (start .pre .0 .0 .apart) _ (head .loop .work) (head .loop .row) (head .loop .inv .3)
+          _ (start .args .height) (start .args .width) (kept .kept-columns .result) (head .loop .samples) _
           (start .pre .1 .0) (rw (head .loop .inv .2) (start .pre .1 .2)) (kept .kept-columns .ensures .0) (kept .kept-columns .ensures .1)
           (called .ensures .1 .0 went) (head .loop .inv .4),
       rw zeroed
@@ -135,16 +136,13 @@ returns-2 c =
     let head = c .before in
     let start = head .before .before in
     let all : head .loop .row ≡ 2 * start .args .frame .«band_rows» = omega (arith, c .loop-test .left, head .loop .inv .0) in
-    let met = rw all at (head .loop .inv .3) in (
-      sym (rows-told _ _ _ _ (start .pre .0 .0 .columns-least) (start .pre .0 .0 .apart) _ (2 * start .args .frame .«band_rows») (head .loop .work) met),
+    let told = rows-told _ _ _ (start .pre .0 .0 .columns-least) (start .pre .0 .0 .apart) _ (2 * start .args .frame .«band_rows») (head .loop .work) (rw all at (head .loop .inv .3)) in (
+      sym told,
       (
-        λ fits. rows-done (filterOf (start .args .wavelet) .steps) _ _ _ (start .pre .0 .0 .columns-least) (start .pre .0 .0 .apart) (start .args .work .now) _ _
+        λ fits. rows-done (filterOf (start .args .wavelet) .steps) _ _ (start .pre .0 .0 .columns-least) (start .pre .0 .0 .apart) (start .args .work .now) _ _ _
             (start .args .height) (start .args .width) (head .loop .samples)
             (λ r x h inside. head .loop .inv .4 r x (omega (arith, all, h, start .pre .1 .1)) inside),
-        (
-          λ fits. rows-small _ _ _ _ (start .pre .0 .0 .columns-least) (start .pre .0 .0 .apart) _ (2 * start .args .frame .«band_rows») (head .loop .work) met,
-          λ fits. rw all at (head .loop .inv .5),
-        ),
+        (λ fits. filter-fits _ _ (start .args .wavelet) _ _ (start .pre .0 .1) told, λ fits. rw all at (head .loop .inv .5)),
       ),
     )
 

@@ -1,168 +1,90 @@
--- `lines::buffers::weave` meets its contract: after x turns the plane is the one that came, with 2 · x entries of the woven row stored.
+-- `lines::buffers::weave` meets its contract: the pairs are stored, and one number more where the count is odd.
 -- Assumes nothing.
-use mathlib.Core.Path.{_≡_, refl, sym, _∙_}
-use mathlib.Core.Bool.{true}
-use Prim.Native.Nat.{ℕ, _+_, _-_, _*_, _≤_, _<_}
+use mathlib.Core.Path.{_≡_, refl, ap, _∙_}
+use Prim.Native.Nat.{ℕ, _+_, _*_, _/_}
 use native.Mathlib.Omega.{arith}
+use borrow.Author.Needs.{needs}
 use lib.IntN.{ℤ, pos}
-use lib.ListN.{length, getD, length-set}
+use lib.ListN.{getD}
 use mir.Syntax.{w32}
 use mir.Val.{toZ, ofZ}
 use Rattle.base.specs.Fill.{fill}
-use Rattle.base.proofs.Fills.{fill-none}
-use Rattle.base.specs.Range.{fits32}
-use Rattle.base.proofs.Ranges.{back, below-fits32}
+use Rattle.base.proofs.Ranges.{back}
+use Rattle.base.proofs.Fills.{fill-more}
 use Rattle.lines.specs.Buffers.{woven, shifted}
-use Rattle.lines.proofs.BufferLaws.{woven-even, woven-odd, fill-two, two-more}
+use Rattle.lines.proofs.BufferLaws.{woven-even}
 use Rattle.lines.proofs.buffers.weave.Statement.{statement}
 use Rattle.lines.proofs.buffers.weave.Tie as tie
 
-abbrev Inv-loop : tie.InvT-loop
-Inv-loop plane₀ place halves half shift x₀ plane x =
-    (x ≤ half) × (length plane ≡ length plane₀) × (plane ≡ fill plane₀ place (2 * x) (λ k. shifted shift (woven halves k)))
-    × ((k : ℕ) → k < 2 * x → fits32 (shifted shift (woven halves k)) ≡ true)
+weave-pairs-requires : tie.Need-weave-pairs-requires
+weave-pairs-requires c κs = search needs
 
-abbrev μ-loop : tie.MeasureT-loop
-μ-loop plane₀ place halves half shift x₀ plane x = half - x
+add-shift-down : tie.Need-add-shift-down
+add-shift-down c = search needs
 
-loop-holds : tie.Need-loop-holds Inv-loop μ-loop
-loop-holds c = (omega arith, refl, sym (fill-none _ _ _), λ k below. absurd (omega arith))
+mul-shift-down : tie.Need-mul-shift-down
+mul-shift-down c = search needs
 
-add-shift-down : tie.Need-add-shift-down Inv-loop μ-loop
-add-shift-down c = omega arith
+element-copy-out-shift-down : tie.Need-element-copy-out-shift-down
+element-copy-out-shift-down c = search needs
 
-mul-shift-down : tie.Need-mul-shift-down Inv-loop μ-loop
-mul-shift-down c = omega arith
+shift-down-requires : tie.Need-shift-down-requires
+shift-down-requires c κs = search needs
 
-element-copy-out-shift-down : tie.Need-element-copy-out-shift-down Inv-loop μ-loop
-element-copy-out-shift-down c = omega arith
+mul-t18 : tie.Need-mul-t18
+mul-t18 c = search needs
 
-shift-down-requires : tie.Need-shift-down-requires Inv-loop μ-loop
-shift-down-requires c κs = tt
+add-t19 : tie.Need-add-t19
+add-t19 c = search needs
 
-mul-plane : tie.Need-mul-plane Inv-loop μ-loop
-mul-plane c = omega arith
+mul-t20 : tie.Need-mul-t20
+mul-t20 c = search needs
 
-add-plane : tie.Need-add-plane Inv-loop μ-loop
-add-plane c = omega arith
+slice-set-from-plane : tie.Need-slice-set-from-plane
+slice-set-from-plane c = search needs
 
-mul-plane-2 : tie.Need-mul-plane-2 Inv-loop μ-loop
-mul-plane-2 c = omega arith
+same-length : tie.Need-same-length
+same-length c = search needs
 
-slice-set-from-plane : tie.Need-slice-set-from-plane Inv-loop μ-loop
-slice-set-from-plane c = omega arith
-
-add-shift-down-2 : tie.Need-add-shift-down-2 Inv-loop μ-loop
-add-shift-down-2 c = omega arith
-
-mul-shift-down-2 : tie.Need-mul-shift-down-2 Inv-loop μ-loop
-mul-shift-down-2 c = omega arith
-
-element-copy-out-shift-down-2 : tie.Need-element-copy-out-shift-down-2 Inv-loop μ-loop
-element-copy-out-shift-down-2 c = omega arith
-
-shift-down-requires-2 : tie.Need-shift-down-requires-2 Inv-loop μ-loop
-shift-down-requires-2 c κs = tt
-
-mul-t14 : tie.Need-mul-t14 Inv-loop μ-loop
-mul-t14 c = omega arith
-
-add-t10 : tie.Need-add-t10 Inv-loop μ-loop
-add-t10 c = omega arith
-
-add-t9 : tie.Need-add-t9 Inv-loop μ-loop
-add-t9 c = omega arith
-
-mul-t20 : tie.Need-mul-t20 Inv-loop μ-loop
-mul-t20 c = omega arith
-
-slice-set-from-plane-2 : tie.Need-slice-set-from-plane-2 Inv-loop μ-loop
-slice-set-from-plane-2 c = simp length-set (omega arith)
-
-add-x : tie.Need-add-x Inv-loop μ-loop
-add-x c = omega arith
-
-loop-less : tie.Need-loop-less Inv-loop μ-loop
-loop-less c = omega arith
-
--- the numbers that the plane is to have, and that each turn makes two of them
-abbrev wanted : tie.At-loop Inv-loop μ-loop → ℕ → ℤ
-wanted c k = shifted (c .before .args .shift) (woven (c .before .args .halves .now) k)
-
-even : (c : tie.After-shift-down Inv-loop μ-loop) → toZ w32 (ofZ w32 (c .shift-down .result)) ≡ wanted (c .before .before .before) (2 * c .before .before .before .loop .x)
-even c =
-    let head = c .before .before .before in
-    let start = head .before in
+returns : tie.Need-returns
+returns c =
+    let start = c .before .before .before .before .before .before in
+    let args = start .args in
+    let halves = args .halves .now in
+    let pairs = args .count / 2 in
+    let wanted : ℕ → ℤ = λ k. shifted (args .shift) (woven halves k) in
+    let all : 2 * pairs + 1 ≡ args .count = omega (arith, c .before .before .if1 .taken) in
+    let last : toZ w32 (ofZ w32 (c .shift-down .result)) ≡ wanted (2 * pairs) =
     back w32 (c .shift-down .result) (c .shift-down .ok)
     ∙ c .shift-down .ensures
-    ∙ rw (
-      back w32 (getD (start .args .halves .now) (4 + head .loop .x) (pos 0)) (c .before .shift-down-arg .given),
-      woven-even (start .args .halves .now) (head .loop .x),
-    )
-    refl
+    ∙ rw (back w32 (getD halves (4 + pairs) (pos 0)) (c .before .shift-down-arg .given), woven-even halves pairs) refl
+    in
+    rw (last, c .before .before .before .before .weave-pairs .ensures)
+    (fill-more (args .plane .now) (args .place) wanted (2 * pairs) (args .place + 2 * pairs) refl
+    ∙ ap (λ (n : ℕ). fill (args .plane .now) (args .place) n wanted) all)
 
-odd : (c : tie.After-shift-down2 Inv-loop μ-loop) → toZ w32 (ofZ w32 (c .shift-down2 .result)) ≡ wanted (c .before .before .before .before .before) (2 * c .before .before .before .before .before .loop .x + 1)
-odd c =
-    let head = c .before .before .before .before .before in
-    let start = head .before in
-    back w32 (c .shift-down2 .result) (c .shift-down2 .ok)
-    ∙ c .shift-down2 .ensures
-    ∙ rw (
-      back w32 (getD (start .args .halves .now) (2060 + head .loop .x) (pos 0)) (c .before .shift-down-arg2 .given),
-      woven-odd (start .args .halves .now) (head .loop .x),
-    )
-    refl
+same-length-2 : tie.Need-same-length-2
+same-length-2 c = search needs
 
--- which fit, as the callee's answers do
-even-fits : (c : tie.After-shift-down Inv-loop μ-loop) → fits32 (wanted (c .before .before .before) (2 * c .before .before .before .loop .x)) ≡ true
-even-fits c = rw (← even c, back w32 (c .shift-down .result) (c .shift-down .ok)) (below-fits32 (c .shift-down .result) (c .shift-down .ok))
-
-odd-fits : (c : tie.After-shift-down2 Inv-loop μ-loop) → fits32 (wanted (c .before .before .before .before .before) (2 * c .before .before .before .before .before .loop .x + 1)) ≡ true
-odd-fits c = rw (← odd c, back w32 (c .shift-down2 .result) (c .shift-down2 .ok)) (below-fits32 (c .shift-down2 .result) (c .shift-down2 .ok))
-
-loop-again : tie.Need-loop-again Inv-loop μ-loop
-loop-again c =
-    let head = c .before .before .before .before .before in (
-      omega arith,
-      simp length-set (head .loop .inv .1),
-      rw (even (c .before .before), odd c, head .loop .inv .2) (fill-two _ _ (wanted head) (head .loop .x) _ _ refl refl),
-      two-more (λ k. fits32 (wanted head k) ≡ true) (head .loop .x) (head .loop .inv .3) (even-fits (c .before .before)) (odd-fits c),
-    )
-
-same-length : tie.Need-same-length Inv-loop μ-loop
-same-length c = c .before .loop .inv .1
-
-returns : tie.Need-returns Inv-loop μ-loop
-returns c =
-    let all : c .before .loop .x ≡ c .before .before .args .half = omega arith in
-    (c .before .loop .inv .2 ∙ rw all refl, λ k below. c .before .loop .inv .3 k (omega arith))
+returns-2 : tie.Need-returns-2
+returns-2 c =
+    let all : 2 * (c .before .before .before .before .args .count / 2) ≡ c .before .before .before .before .args .count = omega (arith, c .if1 .left) in
+    c .before .before .weave-pairs .ensures ∙ rw all refl
 
 pub weave-spec : {M : Type 1} → statement M
 weave-spec =
     tie.close
     (tie.spec
-    Inv-loop
-    μ-loop
-    loop-holds
+    weave-pairs-requires
     add-shift-down
     mul-shift-down
     element-copy-out-shift-down
     shift-down-requires
-    mul-plane
-    add-plane
-    mul-plane-2
-    slice-set-from-plane
-    add-shift-down-2
-    mul-shift-down-2
-    element-copy-out-shift-down-2
-    shift-down-requires-2
-    mul-t14
-    add-t10
-    add-t9
+    mul-t18
+    add-t19
     mul-t20
-    slice-set-from-plane-2
-    add-x
-    loop-less
-    loop-again
+    slice-set-from-plane
     same-length
-    returns)
+    returns
+    same-length-2
+    returns-2)
