@@ -8,7 +8,7 @@ use native.Mathlib.Nat.{one-mul, mod-eq-of-lt}
 use native.Mathlib.Omega.{arith}
 use lib.Dec.{leb, eqb, lit≤}
 use lib.IntN.{ℤ, pos, negsuc, natAbs}
-use lib.ListN.{getD}
+use lib.ListN.{length, getD}
 use lib.Pow.{pow-lt, pow-mono}
 use mir.Syntax.{w64}
 use mir.Val.{toZ, ofZ}
@@ -19,7 +19,7 @@ use Rattle.base.proofs.Everys.{and-left, and-right, all-at}
 use Rattle.base.proofs.Magnitudes.{mag-size}
 use Rattle.base.proofs.Ranges.{back}
 use Rattle.lifting.specs.Lifting.{Step, rounding}
-use Rattle.lifting.specs.Filters.{filterOf}
+use Rattle.lifting.specs.Filters.{filterOf, filter0, filter1, filter2, haarSteps, filter3, filter4, filter5, filter6}
 use Rattle.lifting.specs.Table.{stepOf, gainOf, Sane}
 use Rattle.lifting.specs.declared.filters.LiftingStep.{LiftingStep}
 
@@ -45,6 +45,14 @@ seven (suc (suc zero)) h p0 p1 p2 p3 p4 p5 p6 = p2 refl
 seven (suc (suc (suc n))) h p0 p1 p2 p3 p4 p5 p6 =
     four n (omega arith) (λ e. p3 (ap (λ m. suc (suc (suc m))) e)) (λ e. p4 (ap (λ m. suc (suc (suc m))) e))
     (λ e. p5 (ap (λ m. suc (suc (suc m))) e)) (λ e. p6 (ap (λ m. suc (suc (suc m))) e))
+
+-- a filter has one step at least, and four at most
+pub steps-few : (wavelet : ℕ) → wavelet ≤ 6 → (1 ≤ length (filterOf wavelet .steps)) × (length (filterOf wavelet .steps) ≤ 4)
+unfolding filterOf filter0 filter1 filter2 haarSteps filter3 filter4 filter5 filter6
+steps-few wavelet known =
+    seven wavelet known
+    (λ e. rw e (omega arith, omega arith)) (λ e. rw e (omega arith, omega arith)) (λ e. rw e (omega arith, omega arith)) (λ e. rw e (omega arith, omega arith))
+    (λ e. rw e (omega arith, omega arith)) (λ e. rw e (omega arith, omega arith)) (λ e. rw e (omega arith, omega arith))
 
 -- whether two whole numbers are the same: a number and its distances from 0 and from −1/2
 abbrev sameInt : ℤ → ℤ → Bool

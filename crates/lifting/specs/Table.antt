@@ -8,6 +8,7 @@ use lib.IntN.{ℤ, pos, _-ℤ_, natAbs}
 use lib.ListN.{length, getD, take}
 use Rattle.lines.specs.Buffers.{Symmetric}
 use Rattle.lifting.specs.Lifting.{Step, StepType, type1, type2, type3, type4}
+use Rattle.lifting.specs.Filters.{filterOf}
 use Rattle.lifting.specs.declared.filters.LiftingStep.{LiftingStep}
 
 -- A step's type, from the places it changes and whether it adds.
@@ -48,3 +49,11 @@ pub record Sane (r : LiftingStep) : Type 0 where
   pub gain-exact : r .gain ≡ gainOf (stepOf r)
   pub gain-most : r .gain ≤ 2 ^ 14
   pub real-taps : (t : ℕ) → t < r .count → 1 ≤ natAbs (getD (r .taps) t (pos 0))
+
+-- A row is step k of the filter of a wavelet index.
+abbrev pub IsStep : ℕ → ℕ → LiftingStep → Type 0
+IsStep wavelet k r = (getD (filterOf wavelet .steps) k (stepOf r) ≡ stepOf r) × Sane r
+
+-- An array of rows starts with the steps of that filter; whatever is read past its end.
+abbrev pub StepsOf : ℕ → List LiftingStep → Type 0
+StepsOf wavelet steps = (k : ℕ) (other : LiftingStep) → k < length (filterOf wavelet .steps) → IsStep wavelet k (getD steps k other)

@@ -1,10 +1,10 @@
 // Document 01, "Lifting": the table of seven filters.
 ghost use mathlib.Core.Path.{_≡_};
 ghost use Prim.Native.Nat.{_≤_, _<_};
-ghost use lib.ListN.{length, getD};
+ghost use lib.ListN.{length};
 ghost use Rattle.lifting.specs.Lifting.{rounding};
 ghost use Rattle.lifting.specs.Filters.{filterOf};
-ghost use Rattle.lifting.specs.Table.{stepOf, Sane};
+ghost use Rattle.lifting.specs.Table.{IsStep, StepsOf};
 
 // A lifting step: whether it changes the even places, whether it adds, its first offset, its taps and its scale; and its gain, which is its
 // count of taps times the size of its largest. The first offset D is counted from −3 where even places change and from −4 where odd ones
@@ -214,11 +214,28 @@ pub fn has_shift(wavelet: usize) -> bool
 // Step k of the filter of a wavelet index.
 pub fn step_at(wavelet: usize, k: usize) -> LiftingStep
     requires { ⌜ (wavelet ≤ 6) × (k < length (filterOf wavelet .steps)) ⌝ }
-    ensures { λ r. ⌜ (getD (filterOf wavelet .steps) k (stepOf r) ≡ stepOf r) × Sane r ⌝ }
+    ensures { λ r. ⌜ IsStep wavelet k r ⌝ }
 {
     let filter = FILTERS[wavelet];
     let start = filter.start;
     STEPS[start + k]
+}
+
+// The steps of the filter of a wavelet index, from the first on; the entries that are left repeat the first.
+pub fn filter_steps(wavelet: usize) -> [LiftingStep; 4]
+    requires { ⌜ wavelet ≤ 6 ⌝ }
+    ensures { λ r. ⌜ StepsOf wavelet r ⌝ }
+{
+    let first = step_at(wavelet, 0);
+    let count = step_count(wavelet);
+    let mut steps = [first; 4];
+    let mut k = 1;
+    while k < count {
+        let step = step_at(wavelet, k);
+        steps[k] = step;
+        k += 1;
+    }
+    steps
 }
 
 // What a sum is rounded with before it is divided by 2^scale: half of that, or 0.

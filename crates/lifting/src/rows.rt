@@ -16,14 +16,14 @@ ghost use Rattle.lifting.specs.Lifting.{lift, rounding};
 ghost use Rattle.lifting.specs.Filters.{filterOf};
 ghost use Rattle.lifting.specs.Passes.{rows, run, runAll, newFit, allNewFit};
 ghost use Rattle.lifting.specs.Planes.{pictureOf};
-ghost use Rattle.lifting.specs.Table.{stepOf, Sane};
+ghost use Rattle.lifting.specs.Table.{stepOf, Sane, StepsOf};
 ghost use Rattle.lifting.specs.Layout.{Agree, Placed, halfPlace, halvesOf};
 ghost use Rattle.lifting.specs.Reach.{sourceReach, targetReach, reachAfter, HalvesReach};
 use crate::columns::Frame;
 use crate::filters::LiftingStep;
+use crate::filters::filter_steps;
 use crate::filters::has_shift;
 use crate::filters::rounding_of;
-use crate::filters::step_at;
 use crate::filters::step_count;
 use crate::reach::Reach;
 use crate::reach::reach_after;
@@ -60,6 +60,7 @@ pub fn finish_rows(
     let half = frame.band_columns;
     let stride = frame.stride;
     let rows = 2 * frame.band_rows;
+    let steps = filter_steps(wavelet);
     let mut row = 0;
     while row < rows {
         let count = kept_columns(row, width, height);
@@ -73,6 +74,7 @@ pub fn finish_rows(
             sums,
             half,
             wavelet,
+            steps,
         ) {
             return false;
         }
@@ -92,14 +94,15 @@ fn finish_row(
     sums: &mut [i32; 4096],
     half: usize,
     wavelet: usize,
+    steps: [LiftingStep; 4],
 ) -> bool
-    requires { ⌜ (1 ≤ half) × (half ≤ 2048) × (place + 2 * half ≤ length (now work)) × (wavelet ≤ 6) ⌝ }
+    requires { ⌜ (1 ≤ half) × (half ≤ 2048) × (place + 2 * half ≤ length (now work)) × (wavelet ≤ 6) × StepsOf wavelet steps ⌝ }
     requires { ⌜ (count ≤ 2 * half) × (to + count ≤ length (now samples)) ⌝ }
     ensures told { λ r. ⌜ r ≡ allNewFit 1 (2 * half) (map rows (filterOf wavelet .steps)) (λ row x. getD (now (work .entry)) (place + halfPlace half x) (pos 0)) ⌝ }
     ensures done { λ r. ⌜ (r ≡ true → now (samples .exit) ≡ fill (now (samples .entry)) to count (λ x. shifted (filterOf wavelet .shift) (runAll 1 (2 * half) (map rows (filterOf wavelet .steps)) (λ row k. getD (now (work .entry)) (place + halfPlace half k) (pos 0)) 0 x))) ⌝ }
     ensures cleared { λ r. ⌜ (r ≡ true → now (work .exit) ≡ fill (now (work .entry)) place (2 * half) (λ x. pos 0)) ⌝ }
 {
-    if !filter_row_halves(work, place, halves, sums, half, wavelet) {
+    if !filter_row_halves(work, place, halves, sums, half, wavelet, steps) {
         return false;
     }
     weave(samples, to, halves, count, has_shift(wavelet));
@@ -135,9 +138,10 @@ pub fn filter_rows(
     let half = frame.band_columns;
     let stride = frame.stride;
     let height = 2 * frame.band_rows;
+    let steps = filter_steps(wavelet);
     let mut row = 0;
     while row < height {
-        if !filter_row(work, row * stride, halves, sums, half, wavelet) {
+        if !filter_row(work, row * stride, halves, sums, half, wavelet, steps) {
             return false;
         }
         row += 1;
@@ -153,12 +157,13 @@ fn filter_row(
     sums: &mut [i32; 4096],
     half: usize,
     wavelet: usize,
+    steps: [LiftingStep; 4],
 ) -> bool
-    requires { ⌜ (1 ≤ half) × (half ≤ 2048) × (place + 2 * half ≤ length (now work)) × (wavelet ≤ 6) ⌝ }
+    requires { ⌜ (1 ≤ half) × (half ≤ 2048) × (place + 2 * half ≤ length (now work)) × (wavelet ≤ 6) × StepsOf wavelet steps ⌝ }
     ensures told { λ r. ⌜ r ≡ allNewFit 1 (2 * half) (map rows (filterOf wavelet .steps)) (λ row x. getD (now (work .entry)) (place + halfPlace half x) (pos 0)) ⌝ }
     ensures done { λ r. ⌜ (r ≡ true → now (work .exit) ≡ fill (now (work .entry)) place (2 * half) (λ x. shifted (filterOf wavelet .shift) (runAll 1 (2 * half) (map rows (filterOf wavelet .steps)) (λ row k. getD (now (work .entry)) (place + halfPlace half k) (pos 0)) 0 x))) ⌝ }
 {
-    if !filter_row_halves(work, place, halves, sums, half, wavelet) {
+    if !filter_row_halves(work, place, halves, sums, half, wavelet, steps) {
         return false;
     }
     weave(work, place, halves, 2 * half, has_shift(wavelet));
@@ -173,8 +178,9 @@ fn filter_row_halves(
     sums: &mut [i32; 4096],
     half: usize,
     wavelet: usize,
+    steps: [LiftingStep; 4],
 ) -> bool
-    requires { ⌜ (1 ≤ half) × (half ≤ 2048) × (place + 2 * half ≤ length (now work)) × (wavelet ≤ 6) ⌝ }
+    requires { ⌜ (1 ≤ half) × (half ≤ 2048) × (place + 2 * half ≤ length (now work)) × (wavelet ≤ 6) × StepsOf wavelet steps ⌝ }
     ensures told { λ r. ⌜ r ≡ allNewFit 1 (2 * half) (map rows (filterOf wavelet .steps)) (λ row x. getD (now (work .entry)) (place + halfPlace half x) (pos 0)) ⌝ }
     ensures done { λ r. ⌜ (r ≡ true → (x : ℕ) → x < 2 * half → woven (now (halves .exit)) x ≡ runAll 1 (2 * half) (map rows (filterOf wavelet .steps)) (λ row k. getD (now (work .entry)) (place + halfPlace half k) (pos 0)) 0 x) ⌝ }
 {
@@ -184,7 +190,7 @@ fn filter_row_halves(
         even: low_most + 1,
         odd: high_most + 1,
     };
-    filter_halves(halves, sums, half, wavelet, reach)
+    filter_halves(halves, sums, half, wavelet, steps, reach)
 }
 
 // Runs the steps of a filter on a row whose even and odd places stand as the two halves in the line buffer, each within its reach.
@@ -193,9 +199,10 @@ fn filter_halves(
     sums: &mut [i32; 4096],
     half: usize,
     wavelet: usize,
+    steps: [LiftingStep; 4],
     first: Reach,
 ) -> bool
-    requires { ⌜ (1 ≤ half) × (half ≤ 2048) × (wavelet ≤ 6) ⌝ }
+    requires { ⌜ (1 ≤ half) × (half ≤ 2048) × (wavelet ≤ 6) × StepsOf wavelet steps ⌝ }
     requires { ⌜ HalvesReach half first (now halves) ⌝ }
     ensures told { λ r. ⌜ r ≡ allNewFit 1 (2 * half) (map rows (filterOf wavelet .steps)) (λ row. woven (now (halves .entry))) ⌝ }
     ensures done { λ r. ⌜ (r ≡ true → (x : ℕ) → x < 2 * half → woven (now (halves .exit)) x ≡ runAll 1 (2 * half) (map rows (filterOf wavelet .steps)) (λ row. woven (now (halves .entry))) 0 x) ⌝ }
@@ -204,7 +211,7 @@ fn filter_halves(
     let mut reach = first;
     let mut k = 0;
     while k < count {
-        let step = step_at(wavelet, k);
+        let step = steps[k];
         if !lift_halves(halves, sums, half, step, reach) {
             return false;
         }

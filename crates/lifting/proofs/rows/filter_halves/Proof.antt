@@ -2,8 +2,8 @@
 -- the halves keep to the reach.
 -- Assumes nothing.
 use mathlib.Core.Path.{_≡_, refl, sym, ap, _∙_}
-use mathlib.Core.Bool.{true, false≢true}
-use mathlib.Core.List.{map}
+use mathlib.Core.Bool.{true, false, false≢true}
+use mathlib.Core.List.{[], map}
 use Prim.Native.Nat.{_-_, _*_, _≤_, _<_}
 use native.Mathlib.Omega.{arith}
 use borrow.Author.Needs.{needs}
@@ -15,15 +15,17 @@ use Rattle.lifting.specs.Filters.{filterOf}
 use Rattle.lifting.specs.Layout.{Agree}
 use Rattle.lifting.specs.Passes.{rows, run, runAll, allNewFit}
 use Rattle.lifting.specs.Reach.{HalvesReach}
-use Rattle.lifting.specs.Table.{stepOf}
+use Rattle.lifting.specs.Table.{stepOf, IsStep}
+use Rattle.lifting.specs.declared.filters.LiftingStep.{LiftingStep}
 use Rattle.lifting.proofs.PassLaws.{passes-more, passes-stop}
 use Rattle.lifting.proofs.PairLaws.{twice-length}
 use Rattle.lifting.proofs.RowLaws.{rows-same}
+use Rattle.lifting.proofs.TableLaws.{steps-few}
 use Rattle.lifting.proofs.rows.filter_halves.Statement.{statement}
 use Rattle.lifting.proofs.rows.filter_halves.Tie as tie
 
 abbrev Inv-loop : tie.InvT-loop
-Inv-loop halves₀ sums₀ half wavelet count reach₀ k₀ halves sums reach k =
+Inv-loop halves₀ sums₀ half wavelet steps count reach₀ k₀ halves sums reach k =
     let passes = take k (map rows (filterOf wavelet .steps)) in
     (k ≤ count)
     × (allNewFit 1 (2 * half) passes (λ row. woven halves₀) ≡ true)
@@ -31,7 +33,7 @@ Inv-loop halves₀ sums₀ half wavelet count reach₀ k₀ halves sums reach k 
     × HalvesReach half reach halves
 
 abbrev μ-loop : tie.MeasureT-loop
-μ-loop halves₀ sums₀ half wavelet count reach₀ k₀ halves sums reach k = count - k
+μ-loop halves₀ sums₀ half wavelet steps count reach₀ k₀ halves sums reach k = count - k
 
 step-count-requires : tie.Need-step-count-requires Inv-loop μ-loop
 step-count-requires c κs = search needs
@@ -40,43 +42,55 @@ loop-holds : tie.Need-loop-holds Inv-loop μ-loop
 unfolding runAll allNewFit
 loop-holds c = (omega arith, refl, (λ row x r h. refl), c .before .pre .1)
 
-step-at-requires : tie.Need-step-at-requires Inv-loop μ-loop
-step-at-requires c κs = (c .before .before .before .pre .0 .2, rw (← c .before .before .step-count .ensures) (c .loop-test .taken))
+-- the row of the next step: it is that step of the filter, and its pass is the next pass
+abbrev next : tie.In-loop Inv-loop μ-loop → LiftingStep
+next c =
+    getD (c .before .before .before .args .t5) (c .before .loop .k)
+    (record { even = false; adds = false; lead = 0; taps = []; count = 0; scale = 0; gain = 0 })
+
+inside : (c : tie.In-loop Inv-loop μ-loop) → c .before .loop .k < length (filterOf (c .before .before .before .args .wavelet) .steps)
+inside c = rw (← c .before .before .step-count .ensures) (c .loop-test .taken)
+
+is-step : (c : tie.In-loop Inv-loop μ-loop) → IsStep (c .before .before .before .args .wavelet) (c .before .loop .k) (next c)
+is-step c = c .before .before .before .pre .0 .3 (c .before .loop .k) _ (inside c)
+
+inside-passes : (c : tie.In-loop Inv-loop μ-loop) → c .before .loop .k < length (map rows (filterOf (c .before .before .before .args .wavelet) .steps))
+inside-passes c = rw length-map (inside c)
+
+is-pass :
+    (c : tie.In-loop Inv-loop μ-loop)
+    → getD (map rows (filterOf (c .before .before .before .args .wavelet) .steps)) (c .before .loop .k) (rows (stepOf (next c))) ≡ rows (stepOf (next c))
+is-pass c =
+    List·getD-map rows (filterOf (c .before .before .before .args .wavelet) .steps) (c .before .loop .k) (stepOf (next c)) ∙ ap rows (is-step c .0)
+
+array-copy-out-step : tie.Need-array-copy-out-step Inv-loop μ-loop
+array-copy-out-step c = omega (arith, inside c, steps-few _ (c .before .before .before .pre .0 .2) .1)
+
+mul-step : tie.Need-mul-step Inv-loop μ-loop
+mul-step c = omega (arith, array-copy-out-step c)
 
 lift-halves-requires : tie.Need-lift-halves-requires Inv-loop μ-loop
 lift-halves-requires c κs =
-    let turn = c .before .before in
-    let start = turn .before .before .before .before in
-    ((start .pre .0 .0, start .pre .0 .1, turn .step-at .ensures .1), turn .before .before .loop .inv .3)
-
--- the step is the next pass of the filter
-inside : (c : tie.After-step-at Inv-loop μ-loop) → c .before .before .loop .k < length (map rows (filterOf (c .before .before .before .before .args .wavelet) .steps))
-inside c = rw (length-map, ← c .before .before .before .step-count .ensures) (c .before .loop-test .taken)
-
-next :
-    (c : tie.After-step-at Inv-loop μ-loop)
-    → let pass = rows (stepOf (c .step-at .result)) in
-    getD (map rows (filterOf (c .before .before .before .before .args .wavelet) .steps)) (c .before .before .loop .k) pass ≡ pass
-next c =
-    List·getD-map rows (filterOf (c .before .before .before .before .args .wavelet) .steps) (c .before .before .loop .k) (stepOf (c .step-at .result))
-    ∙ ap rows (c .step-at .ensures .0)
+    let turn = c .before .before .before in
+    let start = turn .before .before .before in
+    ((start .pre .0 .0, start .pre .0 .1, is-step turn .1), turn .before .loop .inv .3)
 
 returns : tie.Need-returns Inv-loop μ-loop
 returns c =
-    let step = c .before .before .before .before in
-    let head = step .before .before in
-    let same = rows-same _ _ (twice-length _ (head .before .before .pre .0 .0)) (stepOf (step .step-at .result)) in (
+    let turn = c .before .before .before .before .before in
+    let head = turn .before in
+    let same = rows-same _ _ (twice-length _ (head .before .before .pre .0 .0)) (stepOf (next turn)) in (
       sym
-          (passes-stop _ _ _ (head .loop .k) _ _ _ (inside step) (next step) same (head .loop .inv .1) (head .loop .inv .2)
+          (passes-stop _ _ _ (head .loop .k) _ _ _ (inside-passes turn) (is-pass turn) same (head .loop .inv .1) (head .loop .inv .2)
           (sym (c .before .lift-halves .ensures .0) ∙ not-true _ (c .if1 .taken))),
       λ wrong. absurd (false≢true wrong),
     )
 
 reach-after-requires : tie.Need-reach-after-requires Inv-loop μ-loop
 reach-after-requires c κs =
-    let step = c .before .before .before .before in
-    let reach = step .before .before .loop .inv .3 in
-    (step .step-at .ensures .1, reach .0, reach .1)
+    let turn = c .before .before .before .before .before in
+    let reach = turn .before .loop .inv .3 in
+    (is-step turn .1, reach .0, reach .1)
 
 add-k : tie.Need-add-k Inv-loop μ-loop
 add-k c = omega (arith, c .before .before .before .before .before .before .loop-test .taken)
@@ -87,16 +101,16 @@ loop-less c = omega (arith, c .before .before .before .before .before .before .l
 loop-again : tie.Need-loop-again Inv-loop μ-loop
 unfolding run
 loop-again c =
-    let step = c .before .before .before .before .before in
-    let head = step .before .before in
+    let turn = c .before .before .before .before .before .before in
+    let head = turn .before in
     let called = c .before .before .lift-halves in
     let went = not-false _ (c .before .if1 .left) in
-    let same = rows-same _ _ (twice-length _ (head .before .before .pre .0 .0)) (stepOf (step .step-at .result)) in
+    let same = rows-same _ _ (twice-length _ (head .before .before .pre .0 .0)) (stepOf (next turn)) in
     let more =
-    passes-more _ _ _ (head .loop .k) _ _ _ (inside step) (next step) same (head .loop .inv .1) (head .loop .inv .2) _
+    passes-more _ _ _ (head .loop .k) _ _ _ (inside-passes turn) (is-pass turn) same (head .loop .inv .1) (head .loop .inv .2) _
     (sym (called .ensures .0) ∙ went) (λ row x r h. called .ensures .1 .0 went x h)
     in
-    (omega (arith, step .before .loop-test .taken), more .0, more .1, rw (c .reach-after .ensures) (called .ensures .1 .1 went))
+    (omega (arith, turn .loop-test .taken), more .0, more .1, rw (c .reach-after .ensures) (called .ensures .1 .1 went))
 
 returns-2 : tie.Need-returns-2 Inv-loop μ-loop
 returns-2 c =
@@ -114,7 +128,8 @@ filter-halves-spec =
     μ-loop
     step-count-requires
     loop-holds
-    step-at-requires
+    mul-step
+    array-copy-out-step
     lift-halves-requires
     returns
     reach-after-requires

@@ -29,11 +29,11 @@ copy-measured-requires-2 c κs = search needs
 cast-high-most : tie.Need-cast-high-most
 cast-high-most c = search needs
 
-add-t16 : tie.Need-add-t16
-add-t16 c = record { fits = omega (arith, c .before .before .copy-measured .ok) }
-
 add-t17 : tie.Need-add-t17
-add-t17 c = record { fits = omega (arith, c .copy-measured2 .ok) }
+add-t17 c = record { fits = omega (arith, c .before .before .copy-measured .ok) }
+
+add-t18 : tie.Need-add-t18
+add-t18 c = record { fits = omega (arith, c .copy-measured2 .ok) }
 
 filter-halves-requires : tie.Need-filter-halves-requires
 filter-halves-requires c κs =
@@ -46,7 +46,7 @@ filter-halves-requires c κs =
     halves-measured (start .args .half) (start .args .place) (start .args .work .now) (start .args .halves .now) (low .last .0) (high .last .0) (start .pre .1) (omega arith)
     (low .ensures .0) (high .ensures .0) (low .result) (high .result) (low .ensures .1) (high .ensures .1)
     in (
-      (start .pre .0, start .pre .1, start .pre .3),
+      (start .pre .0, start .pre .1, start .pre .3, start .pre .4),
       (omega (arith, low .ok), omega (arith, high .ok), within .0, within .1),
     )
 
@@ -84,7 +84,7 @@ filter-row-halves-spec =
     add-copy-measured
     copy-measured-requires-2
     cast-high-most
-    add-t16
     add-t17
+    add-t18
     filter-halves-requires
     returns)
