@@ -21,7 +21,7 @@ use Rattle.lifting.specs.Lifting.{rounding, lift}
 use Rattle.lifting.specs.Layout.{Placed, targetRow, sourceRow}
 use Rattle.lifting.specs.Planes.{pictureOf}
 use Rattle.lifting.specs.Reach.{reachOf, ColumnsReach}
-use Rattle.lifting.specs.Table.{stepOf}
+use Rattle.lifting.specs.Table.{stepOf, lineNew}
 use Rattle.lifting.specs.declared.columns.Frame.{Frame}
 use Rattle.lifting.specs.declared.filters.LiftingStep.{LiftingStep}
 use Rattle.lifting.specs.declared.reach.Reach.{Reach}
@@ -87,26 +87,27 @@ module _ (stride : ℕ) (plane : List ℤ) (target width : ℕ) (f : ℕ → ℤ
       getD-fill-out plane (target * stride) f width (row * stride + x) (pos 0)
       (λ k below. rows-apart stride row target x k other (omega arith) (omega arith))
 
--- What the code makes of the row that a step changes in pair k, from sums that were made either way.
+-- no row that a step reads is one that it changes
+pub source-other : (even : Bool) (b s k : ℕ) → sourceRow even b s ≢ targetRow even k
+unfolding sourceRow targetRow
+source-other true b s k = λ e. omega (arith, e)
+source-other false b s k = λ e. omega (arith, e)
+
+-- What a step makes of the row that it changes in pair k.
 module _
-    (r : LiftingStep) (b k stride width : ℕ) (plane sums : List ℤ) (places : List ℕ) (round : ℤ)
+    (r : LiftingStep) (b k stride width : ℕ) (plane : List ℤ) (places : List ℕ)
     (at : (t : ℕ) → t < r .count → getD places t 0 ≡ sourceRow (r .even) b (k + r .lead + t) * stride)
-    (rounded : round ≡ rounding (r .scale))
-    (summed : (x : ℕ) → x < width → getD sums x (pos 0) ≡ round +ℤ sumBelow (tapAt (r .taps) places plane x) (r .count))
   where
     abbrev place : ℕ
     place = targetRow (r .even) k * stride
-
-    abbrev new : ℕ → ℤ
-    new x = changed (r .adds) (r .scale) (getD plane (place + x) (pos 0)) (getD sums x (pos 0))
 
     abbrev lifted : ℕ → ℤ
     lifted x = lift (stepOf r) (2 * b) (λ row. pictureOf stride plane row x) (targetRow (r .even) k)
 
     -- element by element
-    lifted-at : (x : ℕ) → x < width → new x ≡ lifted x
+    lifted-at : (x : ℕ) → lineNew r places plane place x ≡ lifted x
     unfolding pictureOf tapAt
-    lifted-at x h =
+    lifted-at x =
         let picture : ℕ → ℤ = λ row. pictureOf stride plane row x in
         let same =
         sum-same (tapAt (r .taps) places plane x)
@@ -114,14 +115,14 @@ module _
         (r .count)
         (λ t below. rw (at t below))
         in
-        rw (summed x h, rounded, same) (sym (lift-at-target r b k picture))
+        rw same (sym (lift-at-target r b k picture))
 
     -- the row: whether its new numbers fit, and what the plane is then
     pub lifted-row :
         (told : Bool) (plane' : List ℤ)
-        → told ≡ allBelow width (λ x. fits32 (new x)) → (told ≡ true → plane' ≡ fill plane place width new)
+        → told ≡ allBelow width (λ x. fits32 (lineNew r places plane place x)) → (told ≡ true → plane' ≡ fill plane place width (lineNew r places plane place))
         → (told ≡ allBelow width (λ x. fits32 (lifted x))) × (told ≡ true → plane' ≡ fill plane place width lifted)
     lifted-row told plane' fits done = (
-      fits ∙ all-same _ _ width (λ x h. ap fits32 (lifted-at x h)),
-      λ yes. done yes ∙ fill-same plane place new lifted width lifted-at,
+      fits ∙ all-same _ _ width (λ x h. ap fits32 (lifted-at x)),
+      λ yes. done yes ∙ fill-same plane place (lineNew r places plane place) lifted width (λ x h. lifted-at x),
     )

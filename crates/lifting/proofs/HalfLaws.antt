@@ -24,7 +24,7 @@ use Rattle.lifting.specs.Lifting.{Line, rounding, changes, lift}
 use Rattle.lifting.specs.Passes.{rows, run, newFit, assigns}
 use Rattle.lifting.specs.Layout.{targetRow, sourceRow, halfPlace}
 use Rattle.lifting.specs.Reach.{reachOf, sourceReach, targetReach, reachAfter, HalvesReach}
-use Rattle.lifting.specs.Table.{typeOf, stepOf, Sane}
+use Rattle.lifting.specs.Table.{typeOf, stepOf, Sane, lineNew}
 use Rattle.lifting.specs.declared.filters.LiftingStep.{LiftingStep}
 use Rattle.lifting.specs.declared.reach.Reach.{Reach}
 use Rattle.lifting.proofs.Lifts.{lift-keeps}
@@ -279,54 +279,41 @@ module _
     pub half-old : Within extended (target + 4) b (targetReach r reach)
     half-old k inside = rw (target-kept k inside) (read .targets k inside)
 
-    -- The sums of the taps over it.
+    -- what the step makes of entry k
+    entry-same : (k : ℕ) → k < b → lineNew r places extended (target + 4) k ≡ newEntry r b target source halves k
+    entry-same k inside = rw (target-kept k inside, sum-same (tapAt (r .taps) places extended k) _ (r .count) (λ t h. tap-same k t inside h))
+
+    -- the half with the new entries, where they fit
     module _
-        (sums : List ℤ)
-        (summed : (x : ℕ) → x < b → getD sums x (pos 0) ≡ rounding (r .scale) +ℤ sumBelow (tapAt (r .taps) places extended x) (r .count))
+        (answer : Bool) (halves' : List ℤ) (room : target + 4 + b ≤ length extended)
+        (told : answer ≡ allBelow b (λ k. fits32 (lineNew r places extended (target + 4) k)))
+        (new : answer ≡ true → halves' ≡ fill extended (target + 4) b (lineNew r places extended (target + 4)))
       where
-        -- what a sum makes of entry k
-        entry-same :
-            (k : ℕ) → k < b
-            → changed (r .adds) (r .scale) (getD extended (target + 4 + k) (pos 0)) (getD sums k (pos 0)) ≡ newEntry r b target source halves k
-        entry-same k inside =
-            rw (target-kept k inside, summed k inside, sum-same (tapAt (r .taps) places extended k) _ (r .count) (λ t h. tap-same k t inside h))
+        half-told : answer ≡ allBelow b (λ k. fits32 (newEntry r b target source halves k))
+        half-told = told ∙ all-same _ (λ k. fits32 (newEntry r b target source halves k)) b (λ k inside. ap fits32 (entry-same k inside))
 
-        -- the half with the new entries, where they fit
-        module _
-            (answer : Bool) (halves' : List ℤ) (room : target + 4 + b ≤ length extended)
-            (told : answer ≡ allBelow b (λ k. fits32 (changed (r .adds) (r .scale) (getD extended (target + 4 + k) (pos 0)) (getD sums k (pos 0)))))
-            (new :
-            answer ≡ true
-            → halves' ≡ fill extended (target + 4) b (λ k. changed (r .adds) (r .scale) (getD extended (target + 4 + k) (pos 0)) (getD sums k (pos 0))))
-          where
-            half-told : answer ≡ allBelow b (λ k. fits32 (newEntry r b target source halves k))
-            half-told = told ∙ all-same _ (λ k. fits32 (newEntry r b target source halves k)) b (λ k inside. rw (entry-same k inside))
+        half-done : answer ≡ true → (k : ℕ) → k < b → getD halves' (target + 4 + k) (pos 0) ≡ newEntry r b target source halves k
+        half-done fits k inside =
+            rw (new fits) (getD-fill-in extended (target + 4) (lineNew r places extended (target + 4)) b k (pos 0) inside (omega arith)) ∙ entry-same k inside
 
-            half-done : answer ≡ true → (k : ℕ) → k < b → getD halves' (target + 4 + k) (pos 0) ≡ newEntry r b target source halves k
-            half-done fits k inside =
-                rw (new fits)
-                (getD-fill-in extended (target + 4) (λ k. changed (r .adds) (r .scale) (getD extended (target + 4 + k) (pos 0)) (getD sums k (pos 0))) b k (pos 0) inside
-                (omega arith))
-                ∙ entry-same k inside
+        -- the other half is as it was
+        half-kept : answer ≡ true → (k : ℕ) → k < b → getD halves' (source + 4 + k) (pos 0) ≡ getD halves (source + 4 + k) (pos 0)
+        half-kept fits k inside =
+            rw (new fits)
+            (getD-fill-out extended (target + 4) (lineNew r places extended (target + 4)) b (source + 4 + k) (pos 0)
+            (λ j below e. read .apart (4 + j) (4 + k) (omega arith) (omega arith) (omega arith)))
+            ∙ source-kept k inside
 
-            -- the other half is as it was
-            half-kept : answer ≡ true → (k : ℕ) → k < b → getD halves' (source + 4 + k) (pos 0) ≡ getD halves (source + 4 + k) (pos 0)
-            half-kept fits k inside =
-                rw (new fits)
-                (getD-fill-out extended (target + 4) (λ k. changed (r .adds) (r .scale) (getD extended (target + 4 + k) (pos 0)) (getD sums k (pos 0))) b (source + 4 + k) (pos 0)
-                (λ j below e. read .apart (4 + j) (4 + k) (omega arith) (omega arith) (omega arith)))
-                ∙ source-kept k inside
+        -- the new entries are within the bound that the step leaves
+        half-within : answer ≡ true → Within halves' (target + 4) b (targetReach r (reachAfter r reach))
+        half-within fits k inside =
+            rw (half-done fits k inside, target-reach-after r reach)
+            (after-size r (read .sane) (sourceReach r reach) (readEntry r b source halves k) (λ t h. read-within k t) (getD halves (target + 4 + k) (pos 0)) (targetReach r reach)
+            (read .targets k inside)
+            (all-at (λ k. fits32 (newEntry r b target source halves k)) b k (sym half-told ∙ fits) inside))
 
-            -- the new entries are within the bound that the step leaves
-            half-within : answer ≡ true → Within halves' (target + 4) b (targetReach r (reachAfter r reach))
-            half-within fits k inside =
-                rw (half-done fits k inside, target-reach-after r reach)
-                (after-size r (read .sane) (sourceReach r reach) (readEntry r b source halves k) (λ t h. read-within k t) (getD halves (target + 4 + k) (pos 0)) (targetReach r reach)
-                (read .targets k inside)
-                (all-at (λ k. fits32 (newEntry r b target source halves k)) b k (sym half-told ∙ fits) inside))
-
-            pub half-lifted : HalfLifted r b reach target source halves answer halves'
-            half-lifted = (half-told, (half-done, (half-kept, half-within)))
+        pub half-lifted : HalfLifted r b reach target source halves answer halves'
+        half-lifted = (half-told, (half-done, (half-kept, half-within)))
 
 -- a row's halves, as those of the even and of the odd places, and as those that a step changes and reads
 halves-apart :

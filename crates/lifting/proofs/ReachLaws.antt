@@ -135,13 +135,11 @@ module _
 
     -- the new numbers fit 32 bits
     pub line-fits :
-        (line sums : List ℤ) (place : ℕ)
-        → ((x : ℕ) → x < width → getD sums x (pos 0) ≡ round +ℤ sumBelow (tapAt (r .taps) places source x) (r .count))
-        → Within line place width target
-        → (x : ℕ) → x < width → fits32 (changed (r .adds) (r .scale) (getD line (place + x) (pos 0)) (getD sums x (pos 0))) ≡ true
+        (line : List ℤ) (place : ℕ) → Within line place width target
+        → (x : ℕ) → x < width → fits32 (changed (r .adds) (r .scale) (getD line (place + x) (pos 0)) (round +ℤ sumBelow (tapAt (r .taps) places source x) (r .count))) ≡ true
     unfolding tapAt
-    line-fits line sums place summed old x below =
-        rw (summed x below, rounded)
+    line-fits line place old x below =
+        rw rounded
         (new-fits r sane m (λ t. getD source (getD places t 0 + x) (pos 0)) (λ t inside. near t inside x below) (getD line (place + x) (pos 0)) target (old x below) small)
 
 -- a size chosen of two that a bound covers

@@ -4,10 +4,11 @@ use mathlib.Core.Path.{_≡_}
 use Prim.Native.Nat.{ℕ, _+_, _*_, _^_, _≤_, _<_, max}
 use mathlib.Core.Bool.{Bool, true, false, cond}
 use mathlib.Core.List.{List, [], _∷_}
-use lib.IntN.{ℤ, pos, _-ℤ_, natAbs}
+use lib.IntN.{ℤ, pos, _+ℤ_, _-ℤ_, natAbs}
 use lib.ListN.{length, getD, take}
 use Rattle.lines.specs.Buffers.{Symmetric}
-use Rattle.lifting.specs.Lifting.{Step, StepType, type1, type2, type3, type4}
+use Rattle.lines.specs.Sums.{sumBelow, tapAt, changed}
+use Rattle.lifting.specs.Lifting.{Step, rounding, StepType, type1, type2, type3, type4}
 use Rattle.lifting.specs.Filters.{filterOf}
 use Rattle.lifting.specs.declared.filters.LiftingStep.{LiftingStep}
 
@@ -49,6 +50,11 @@ pub record Sane (r : LiftingStep) : Type 0 where
   pub gain-exact : r .gain ≡ gainOf (stepOf r)
   pub gain-most : r .gain ≤ 2 ^ 14
   pub real-taps : (t : ℕ) → t < r .count → 1 ≤ natAbs (getD (r .taps) t (pos 0))
+
+-- What a step makes of the number at place x of a line, each tap reading from its own place of the same plane.
+abbrev pub lineNew : LiftingStep → List ℕ → List ℤ → ℕ → ℕ → ℤ
+lineNew r places plane place x =
+    changed (r .adds) (r .scale) (getD plane (place + x) (pos 0)) (rounding (r .scale) +ℤ sumBelow (tapAt (r .taps) places plane x) (r .count))
 
 -- A row is step k of the filter of a wavelet index.
 abbrev pub IsStep : ℕ → ℕ → LiftingStep → Type 0

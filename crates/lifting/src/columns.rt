@@ -16,16 +16,11 @@ ghost use Rattle.lifting.specs.Table.{stepOf, Sane};
 ghost use Rattle.lifting.specs.Layout.{Agree, Placed, targetRow, sourceRow};
 ghost use Rattle.lifting.specs.Reach.{sourceReach, targetReach, reachAfter, ColumnsReach};
 use crate::filters::LiftingStep;
-use crate::filters::rounding_of;
 use crate::filters::step_at;
 use crate::filters::step_count;
 use crate::reach::Reach;
 use crate::reach::reach_after;
-use crate::reach::stays_small;
-use lines::small::lift_small;
-use lines::small::sum_small;
-use lines::sums::lift_line;
-use lines::sums::sum_taps;
+use crate::steps::lift_step;
 
 // Where the picture of a level stands in a plane: how far apart its rows are, and the size of its bands, which is half its own.
 pub struct Frame {
@@ -36,13 +31,7 @@ pub struct Frame {
 
 // Runs the steps of a filter on every column of the picture, whose numbers are at most `most` + 1 in size. False where a new number is
 // outside 32 bits; then the plane's numbers are of no use.
-pub fn filter_columns(
-    work: &mut [i32],
-    sums: &mut [i32; 4096],
-    frame: Frame,
-    wavelet: usize,
-    most: u32,
-) -> bool
+pub fn filter_columns(work: &mut [i32], frame: Frame, wavelet: usize, most: u32) -> bool
     requires { ⌜ Placed frame (now work) × (wavelet ≤ 6) ⌝ }
     requires { ⌜ ((row : ℕ) → row < 2 * frame .«band_rows» → Within (now work) (row * frame .stride) (2 * frame .«band_columns») (suc most)) ⌝ }
     ensures told { λ r. ⌜ r ≡ allNewFit (2 * frame .«band_rows») (2 * frame .«band_columns») (map columns (filterOf wavelet .steps)) (pictureOf (frame .stride) (now (work .entry))) ⌝ }
@@ -57,7 +46,7 @@ pub fn filter_columns(
     let mut k = 0;
     while k < count {
         let step = step_at(wavelet, k);
-        if !lift_columns(work, sums, frame, step, reach) {
+        if !lift_columns(work, frame, step, reach) {
             return false;
         }
         reach = reach_after(step, reach);
@@ -67,13 +56,7 @@ pub fn filter_columns(
 }
 
 // Runs one step on every column of the picture, whose numbers keep to a reach.
-fn lift_columns(
-    work: &mut [i32],
-    sums: &mut [i32; 4096],
-    frame: Frame,
-    step: LiftingStep,
-    reach: Reach,
-) -> bool
+fn lift_columns(work: &mut [i32], frame: Frame, step: LiftingStep, reach: Reach) -> bool
     requires { ⌜ Placed frame (now work) × Sane step × ColumnsReach frame reach (now work) ⌝ }
     ensures told { λ r. ⌜ r ≡ newFit (2 * frame .«band_rows») (2 * frame .«band_columns») (columns (stepOf step)) (run (2 * frame .«band_rows») (2 * frame .«band_columns») (columns (stepOf step)) (pictureOf (frame .stride) (now (work .entry)))) ⌝ }
     ensures done { λ r. ⌜ (r ≡ true → Agree (2 * frame .«band_rows») (2 * frame .«band_columns») (pictureOf (frame .stride) (now (work .exit))) (run (2 * frame .«band_rows») (2 * frame .«band_columns») (columns (stepOf step)) (pictureOf (frame .stride) (now (work .entry))))) ⌝ }
@@ -82,7 +65,7 @@ fn lift_columns(
     let pairs = frame.band_rows;
     let mut k = 0;
     while k < pairs {
-        if !lift_row(work, sums, frame, k, step, reach) {
+        if !lift_row(work, frame, k, step, reach) {
             return false;
         }
         k += 1;
@@ -90,16 +73,8 @@ fn lift_columns(
     true
 }
 
-// Runs one step on one element of every column: the row of pair k that the step changes. In 32 bits where that row and those that are read
-// are so small that it stays within them.
-fn lift_row(
-    work: &mut [i32],
-    sums: &mut [i32; 4096],
-    frame: Frame,
-    k: usize,
-    step: LiftingStep,
-    reach: Reach,
-) -> bool
+// Runs one step on one element of every column: the row of pair k that the step changes.
+fn lift_row(work: &mut [i32], frame: Frame, k: usize, step: LiftingStep, reach: Reach) -> bool
     requires { ⌜ Placed frame (now work) × Sane step × (k < frame .«band_rows») × (reach .even ≤ 2 ^ 32) × (reach .odd ≤ 2 ^ 32) ⌝ }
     requires { ⌜ ((s : ℕ) → Within (now work) (sourceRow (step .even) (frame .«band_rows») s * frame .stride) (2 * frame .«band_columns») (sourceReach step reach)) × Within (now work) (targetRow (step .even) k * frame .stride) (2 * frame .«band_columns») (targetReach step reach) ⌝ }
     ensures told { λ r. ⌜ r ≡ allBelow (2 * frame .«band_columns») (λ c. fits32 (lift (stepOf step) (2 * frame .«band_rows») (λ r. pictureOf (frame .stride) (now (work .entry)) r c) (targetRow (step .even) k))) ⌝ }
@@ -107,17 +82,8 @@ fn lift_row(
 {
     let width = 2 * frame.band_columns;
     let places = row_places(frame, step.even, k + step.lead);
-    let taps = step.taps;
-    let round = rounding_of(step.scale);
     let target = target_row(step.even, k) * frame.stride;
-    if stays_small(step, reach) {
-        sum_small(sums, work, width, &taps, &places, step.count, round);
-        lift_small(work, target, sums, width, step.scale, step.adds);
-        return true;
-    }
-    let mut exact = [0i64; 4096];
-    sum_taps(&mut exact, work, width, &taps, &places, step.count, round);
-    lift_line(work, target, &exact, width, step.scale, step.adds)
+    lift_step(work, target, width, &places, step, reach)
 }
 
 // The row of pair k that a step changes.

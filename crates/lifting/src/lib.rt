@@ -3,3 +3,4 @@ pub mod columns;
 pub mod filters;
 pub mod reach;
 pub mod rows;
+pub mod steps;

@@ -1,5 +1,6 @@
 // How large the numbers of a pass may be, step by step: where they stay within 32 bits, a step is run without tests.
 ghost use mathlib.Core.Path.{_≡_};
+ghost use mathlib.Core.Bool.{true};
 ghost use Prim.Native.Nat.{_≤_, _<_, _^_};
 ghost use Rattle.lifting.specs.Table.{Sane};
 ghost use Rattle.lifting.specs.Reach.{staysSmall, targetAfter, sourceReach, targetReach, reachAfter};
@@ -20,6 +21,16 @@ pub fn stays_small(step: LiftingStep, reach: Reach) -> bool
         return target_after(step, reach.odd, reach.even) < 2147483648;
     }
     target_after(step, reach.even, reach.odd) < 2147483648
+}
+
+// Whether the numbers that a step reads are below 2^14 in size.
+pub fn reads_narrow(step: LiftingStep, reach: Reach) -> bool
+    ensures { λ r. ⌜ (r ≡ true → sourceReach step reach < 2 ^ 14) ⌝ }
+{
+    if step.even {
+        return reach.odd < 16384;
+    }
+    reach.even < 16384
 }
 
 // The reach after a step.

@@ -23,19 +23,14 @@ use crate::columns::Frame;
 use crate::filters::LiftingStep;
 use crate::filters::filter_steps;
 use crate::filters::has_shift;
-use crate::filters::rounding_of;
 use crate::filters::step_count;
 use crate::reach::Reach;
 use crate::reach::reach_after;
-use crate::reach::stays_small;
+use crate::steps::lift_step;
 use base::plane::zero_part;
 use lines::buffers::extend;
 use lines::buffers::weave;
 use lines::measures::copy_measured;
-use lines::small::lift_small;
-use lines::small::sum_small;
-use lines::sums::lift_line;
-use lines::sums::sum_taps;
 
 // Runs the steps of a filter, and its shift, on every row of a picture whose rows stand as two halves. The first `width` numbers of the first
 // `height` rows go to the samples, row by row, and the rows of the plane are zeroed. False where a new number of a step is outside 32 bits; then
@@ -44,7 +39,6 @@ pub fn finish_rows(
     work: &mut [i32],
     samples: &mut [i32],
     halves: &mut [i32; 4112],
-    sums: &mut [i32; 4096],
     frame: Frame,
     wavelet: usize,
     width: usize,
@@ -71,7 +65,6 @@ pub fn finish_rows(
             row * count,
             count,
             halves,
-            sums,
             half,
             wavelet,
             steps,
@@ -91,7 +84,6 @@ fn finish_row(
     to: usize,
     count: usize,
     halves: &mut [i32; 4112],
-    sums: &mut [i32; 4096],
     half: usize,
     wavelet: usize,
     steps: [LiftingStep; 4],
@@ -102,7 +94,7 @@ fn finish_row(
     ensures done { λ r. ⌜ (r ≡ true → now (samples .exit) ≡ fill (now (samples .entry)) to count (λ x. shifted (filterOf wavelet .shift) (runAll 1 (2 * half) (map rows (filterOf wavelet .steps)) (λ row k. getD (now (work .entry)) (place + halfPlace half k) (pos 0)) 0 x))) ⌝ }
     ensures cleared { λ r. ⌜ (r ≡ true → now (work .exit) ≡ fill (now (work .entry)) place (2 * half) (λ x. pos 0)) ⌝ }
 {
-    if !filter_row_halves(work, place, halves, sums, half, wavelet, steps) {
+    if !filter_row_halves(work, place, halves, half, wavelet, steps) {
         return false;
     }
     weave(samples, to, halves, count, has_shift(wavelet));
@@ -123,13 +115,7 @@ fn kept_columns(row: usize, width: usize, height: usize) -> usize
 
 // Runs the steps of a filter, and its shift, on every row of a picture whose rows stand as two halves; they are woven in the end. False where
 // a new number of a step is outside 32 bits; then the plane's numbers are of no use.
-pub fn filter_rows(
-    work: &mut [i32],
-    halves: &mut [i32; 4112],
-    sums: &mut [i32; 4096],
-    frame: Frame,
-    wavelet: usize,
-) -> bool
+pub fn filter_rows(work: &mut [i32], halves: &mut [i32; 4112], frame: Frame, wavelet: usize) -> bool
     requires { ⌜ Placed frame (now work) × (wavelet ≤ 6) ⌝ }
     ensures told { λ r. ⌜ r ≡ allNewFit (2 * frame .«band_rows») (2 * frame .«band_columns») (map rows (filterOf wavelet .steps)) (halvesOf (frame .«band_columns») (frame .stride) (now (work .entry))) ⌝ }
     ensures done { λ r. ⌜ (r ≡ true → Agree (2 * frame .«band_rows») (2 * frame .«band_columns») (pictureOf (frame .stride) (now (work .exit))) (λ row x. shifted (filterOf wavelet .shift) (runAll (2 * frame .«band_rows») (2 * frame .«band_columns») (map rows (filterOf wavelet .steps)) (halvesOf (frame .«band_columns») (frame .stride) (now (work .entry))) row x))) ⌝ }
@@ -141,7 +127,7 @@ pub fn filter_rows(
     let steps = filter_steps(wavelet);
     let mut row = 0;
     while row < height {
-        if !filter_row(work, row * stride, halves, sums, half, wavelet, steps) {
+        if !filter_row(work, row * stride, halves, half, wavelet, steps) {
             return false;
         }
         row += 1;
@@ -154,7 +140,6 @@ fn filter_row(
     work: &mut [i32],
     place: usize,
     halves: &mut [i32; 4112],
-    sums: &mut [i32; 4096],
     half: usize,
     wavelet: usize,
     steps: [LiftingStep; 4],
@@ -163,7 +148,7 @@ fn filter_row(
     ensures told { λ r. ⌜ r ≡ allNewFit 1 (2 * half) (map rows (filterOf wavelet .steps)) (λ row x. getD (now (work .entry)) (place + halfPlace half x) (pos 0)) ⌝ }
     ensures done { λ r. ⌜ (r ≡ true → now (work .exit) ≡ fill (now (work .entry)) place (2 * half) (λ x. shifted (filterOf wavelet .shift) (runAll 1 (2 * half) (map rows (filterOf wavelet .steps)) (λ row k. getD (now (work .entry)) (place + halfPlace half k) (pos 0)) 0 x))) ⌝ }
 {
-    if !filter_row_halves(work, place, halves, sums, half, wavelet, steps) {
+    if !filter_row_halves(work, place, halves, half, wavelet, steps) {
         return false;
     }
     weave(work, place, halves, 2 * half, has_shift(wavelet));
@@ -175,7 +160,6 @@ fn filter_row_halves(
     work: &[i32],
     place: usize,
     halves: &mut [i32; 4112],
-    sums: &mut [i32; 4096],
     half: usize,
     wavelet: usize,
     steps: [LiftingStep; 4],
@@ -190,13 +174,12 @@ fn filter_row_halves(
         even: low_most + 1,
         odd: high_most + 1,
     };
-    filter_halves(halves, sums, half, wavelet, steps, reach)
+    filter_halves(halves, half, wavelet, steps, reach)
 }
 
 // Runs the steps of a filter on a row whose even and odd places stand as the two halves in the line buffer, each within its reach.
 fn filter_halves(
     halves: &mut [i32; 4112],
-    sums: &mut [i32; 4096],
     half: usize,
     wavelet: usize,
     steps: [LiftingStep; 4],
@@ -212,7 +195,7 @@ fn filter_halves(
     let mut k = 0;
     while k < count {
         let step = steps[k];
-        if !lift_halves(halves, sums, half, step, reach) {
+        if !lift_halves(halves, half, step, reach) {
             return false;
         }
         reach = reach_after(step, reach);
@@ -222,13 +205,7 @@ fn filter_halves(
 }
 
 // Runs one step on such a row.
-fn lift_halves(
-    halves: &mut [i32; 4112],
-    sums: &mut [i32; 4096],
-    half: usize,
-    step: LiftingStep,
-    reach: Reach,
-) -> bool
+fn lift_halves(halves: &mut [i32; 4112], half: usize, step: LiftingStep, reach: Reach) -> bool
     requires { ⌜ (1 ≤ half) × (half ≤ 2048) × Sane step ⌝ }
     requires { ⌜ HalvesReach half reach (now halves) ⌝ }
     ensures told { λ r. ⌜ r ≡ newFit 1 (2 * half) (rows (stepOf step)) (run 1 (2 * half) (rows (stepOf step)) (λ row. woven (now (halves .entry)))) ⌝ }
@@ -236,9 +213,9 @@ fn lift_halves(
     ensures bounded { λ r. ⌜ (r ≡ true → HalvesReach half (reachAfter step reach) (now (halves .exit))) ⌝ }
 {
     if step.even {
-        lift_half(halves, 0, 2056, sums, half, step, reach)
+        lift_half(halves, 0, 2056, half, step, reach)
     } else {
-        lift_half(halves, 2056, 0, sums, half, step, reach)
+        lift_half(halves, 2056, 0, half, step, reach)
     }
 }
 
@@ -247,7 +224,6 @@ fn lift_half(
     halves: &mut [i32; 4112],
     target: usize,
     source: usize,
-    sums: &mut [i32; 4096],
     half: usize,
     step: LiftingStep,
     reach: Reach,
@@ -262,16 +238,7 @@ fn lift_half(
 {
     extend(halves, source, half);
     let places = line_places(source + step.lead);
-    let taps = step.taps;
-    let round = rounding_of(step.scale);
-    if stays_small(step, reach) {
-        sum_small(sums, halves, half, &taps, &places, step.count, round);
-        lift_small(halves, target + 4, sums, half, step.scale, step.adds);
-        return true;
-    }
-    let mut exact = [0i64; 4096];
-    sum_taps(&mut exact, halves, half, &taps, &places, step.count, round);
-    lift_line(halves, target + 4, &exact, half, step.scale, step.adds)
+    lift_step(halves, target + 4, half, &places, step, reach)
 }
 
 // Where eight taps start in the line buffer, one after the other.

@@ -1,12 +1,12 @@
 -- Laws of sums of taps: one tap more, and sizes that stay within 64 bits.
 -- Assumes nothing.
 use mathlib.Core.Path.{_≡_, refl, sym, ap, _∙_}
-use mathlib.Core.Bool.{Bool, true, false}
+use mathlib.Core.Bool.{true}
 use mathlib.Core.List.{List}
 use Prim.Native.Nat.{ℕ, zero, suc, _+_, _-_, _*_, _/_, _^_, _≤_, _<_}
 use native.Mathlib.Numerals.{add-one}
 use native.Mathlib.Decide.{decLt}
-use native.Mathlib.Nat.{suc-mul, mul-comm, mul-le-mul-right, mul-div-le, le-div-iff-mul-le}
+use native.Mathlib.Nat.{mul-comm, mul-le-mul-right, mul-div-le, le-div-iff-mul-le}
 use native.Mathlib.Omega.{arith}
 use lib.IntN.{ℤ, pos, natAbs, _+ℤ_, _-ℤ_, _*ℤ_, negsuc, +ℤ-idl, +ℤ-idr, +ℤ-assoc, +ℤ-comm, zero-*ℤ, sucℤ-*ℤ, *ℤ-comm, *ℤ-negsuc, negℤ, negℤ-+ℤ}
 use lib.ListN.{length, getD, List·getD-eq-default}
@@ -18,7 +18,7 @@ use Rattle.base.proofs.Fills.{length-fill, getD-fill-start}
 use Rattle.base.proofs.Ranges.{below-fits32}
 use Rattle.base.proofs.Magnitudes.{mag-size, size-mag, size-add, size-sub, size-mul, size-mul-most, size-floor}
 use Rattle.lines.specs.Buffers.{Below}
-use Rattle.lines.specs.Sums.{sumBelow, changed}
+use Rattle.lines.specs.Sums.{sumBelow}
 
 -- a plane's entry with a quotient of a sum added or subtracted fits 64 bits
 module _ (v sum : ℤ) (d : ℕ) (hv : mag v < 2 ^ 31) (hs : natAbs sum ≤ 2 ^ 48) where
@@ -97,12 +97,7 @@ tap-size tap a some =
 pub pair-size : (tap a b : ℤ) → natAbs (tap *ℤ (a +ℤ b)) ≤ natAbs (tap *ℤ a) + natAbs (tap *ℤ b)
 pair-size tap a b = rw (spread tap a b) (size-add (tap *ℤ a) (tap *ℤ b))
 
-pub times-one : (z : ℤ) → pos 1 *ℤ z ≡ z
-times-one z = sucℤ-*ℤ (pos 0) z ∙ rw (zero-*ℤ z) (+ℤ-idl z)
-
-pub times-minus-one : (s z : ℤ) → s +ℤ negsuc 0 *ℤ z ≡ s -ℤ z
-times-minus-one s z = ap (λ (t : ℤ). s +ℤ t) (minus-times 0 z ∙ ap negℤ (times-one z))
-
+-- a number below 2^31 in size fits 32 bits
 pub slight : (z : ℤ) → natAbs z < 2 ^ 31 → fits32 z ≡ true
 slight z h = below-fits32 z (omega (arith, mag-size z))
 
@@ -141,12 +136,6 @@ around-none f m r = sym (+ℤ-idr r)
 pub around-all : (f : ℕ → ℤ) (m : ℕ) → around f m m ≡ sumBelow f (2 * m)
 around-all f m = sum-same (λ i. f (m - m + i)) f (2 * m) (λ i h. ap f (omega arith))
 
--- A sum of numbers of a bounded size.
-pub sum-below : (f : ℕ → ℤ) (n q : ℕ) → ((i : ℕ) → i < n → natAbs (f i) ≤ q) → natAbs (sumBelow f n) ≤ n * q
-unfolding sumBelow
-sum-below f zero q small = omega arith
-sum-below f (suc n) q small = omega (arith, suc-mul n q, size-add (sumBelow f n) (f n), sum-below f n q (λ i h. small i (omega arith)), small n (omega arith))
-
 -- What is left of a whole beside r, in c equal shares: a number that c times fits there is no larger than a share, and c shares fit.
 abbrev pub share : ℕ → ℕ → ℕ → ℕ
 share whole c r = (whole - r) / c
@@ -159,17 +148,8 @@ shares-fit whole c r n few h =
     let most : n * share whole c r ≤ c * share whole c r = mul-le-mul-right (share whole c r) few in
     omega (arith, mul-div-le (whole - r) c)
 
--- One pair more around the middle of c = 2 * half numbers, each of which c times leaves room for r below 2^31: it fits, and what it makes of the sum.
+-- What one pair more around the middle of 2 * half numbers makes of the sum.
 module _ (f : ℕ → ℤ) (half j : ℕ) (inside : j < half) where
-  pub pair-room : (r : ℕ) → ((t : ℕ) → t < 2 * half → 2 * half * natAbs (f t) + r < 2 ^ 31)
-      → r + natAbs (around f half j) + (natAbs (f (half - 1 - j)) + natAbs (f (half + j))) < 2 ^ 31
-  pair-room r small =
-      let q : ℕ = share (2 ^ 31 - 1) (2 * half) r in
-      let each : (t : ℕ) → t < 2 * half → natAbs (f t) ≤ q = λ t h. keeps-share (2 ^ 31 - 1) (2 * half) r (natAbs (f t)) (omega arith) (omega (arith, small t h)) in
-      let middle : natAbs (around f half j) ≤ 2 * j * q = sum-below (λ i. f (half - j + i)) (2 * j) q (λ i h. each (half - j + i) (omega arith)) in
-      let most : r + suc (suc (2 * j)) * q ≤ 2 ^ 31 - 1 = shares-fit (2 ^ 31 - 1) (2 * half) r (suc (suc (2 * j))) (omega arith) (omega (arith, small 0 (omega arith))) in
-      omega (arith, suc-mul (suc (2 * j)) q, suc-mul (2 * j) q, each (half - 1 - j) (omega arith), each (half + j) (omega arith))
-
   pub pair-added : (r s tap a b : ℤ) → s ≡ r +ℤ around f half j → f (half - 1 - j) ≡ tap *ℤ a → f (half + j) ≡ tap *ℤ b
       → s +ℤ tap *ℤ (a +ℤ b) ≡ r +ℤ around f half (j + 1)
   pair-added r s tap a b so low high =
@@ -177,3 +157,7 @@ module _ (f : ℕ → ℤ) (half j : ℕ) (inside : j < half) where
       rw (low, high) at (+ℤ-assoc r (around f half j) (f (half - 1 - j) +ℤ f (half + j)))
       ∙ ap (λ (t : ℤ). r +ℤ t) (rw (low, high) at (around-more f half j inside))
       )
+
+-- a tap of 0 adds nothing
+pub zero-added : (s z : ℤ) → s ≡ s +ℤ pos 0 *ℤ z
+zero-added s z = rw (zero-*ℤ z) (sym (+ℤ-idr s))

@@ -32,7 +32,6 @@ pub fn synthesise_levels(
     work: &mut [i32],
     coefficients: &[i32],
     halves: &mut [i32; 4112],
-    sums: &mut [i32; 4096],
     extent: Extent,
     wavelet: usize,
     n: usize,
@@ -46,11 +45,11 @@ pub fn synthesise_levels(
         return 0;
     }
     let below = n - 1;
-    let bad = synthesise_levels(work, coefficients, halves, sums, extent, wavelet, below);
+    let bad = synthesise_levels(work, coefficients, halves, extent, wavelet, below);
     if bad != 0 {
         return bad;
     }
-    if synthesise_level(work, coefficients, halves, sums, extent, wavelet, below) {
+    if synthesise_level(work, coefficients, halves, extent, wavelet, below) {
         0
     } else {
         n
@@ -80,7 +79,6 @@ fn synthesise_level(
     work: &mut [i32],
     coefficients: &[i32],
     halves: &mut [i32; 4112],
-    sums: &mut [i32; 4096],
     extent: Extent,
     wavelet: usize,
     below: usize,
@@ -91,10 +89,10 @@ fn synthesise_level(
 {
     let frame = next_frame(extent, below);
     let most = interleave_bands(work, coefficients, extent.padded_width, frame);
-    if !filter_columns(work, sums, frame, wavelet, most) {
+    if !filter_columns(work, frame, wavelet, most) {
         return false;
     }
-    filter_rows(work, halves, sums, frame, wavelet)
+    filter_rows(work, halves, frame, wavelet)
 }
 
 // Builds the picture of the last level likewise. Its first rows and columns go to the samples, and the work plane is zeroed. False where it
@@ -104,7 +102,6 @@ fn finish_level(
     samples: &mut [i32],
     coefficients: &[i32],
     halves: &mut [i32; 4112],
-    sums: &mut [i32; 4096],
     extent: Extent,
     wavelet: usize,
     below: usize,
@@ -119,10 +116,10 @@ fn finish_level(
 {
     let frame = next_frame(extent, below);
     let most = interleave_bands(work, coefficients, extent.padded_width, frame);
-    if !filter_columns(work, sums, frame, wavelet, most) {
+    if !filter_columns(work, frame, wavelet, most) {
         return false;
     }
-    finish_rows(work, samples, halves, sums, frame, wavelet, width, height)
+    finish_rows(work, samples, halves, frame, wavelet, width, height)
 }
 
 // Builds the levels below the last in the work plane and the last one in the samples, of which there is the component's first rows and columns.
@@ -143,17 +140,8 @@ pub fn synthesise_samples(
     ensures done { λ r. ⌜ (r ≡ 0 → Agree height width (pictureOf width (now (samples .exit))) (synthesis (filterOf wavelet) (extent .«low_rows») (extent .«low_columns») (pictureOf (extent .«padded_width») (now (coefficients .entry))) (extent .depth)) × (now (work .exit) ≡ zerosLike (now (work .entry)))) ⌝ }
 {
     let mut halves = [0i32; 4112];
-    let mut sums = [0i32; 4096];
     let below = extent.depth - 1;
-    let bad = synthesise_levels(
-        work,
-        coefficients,
-        &mut halves,
-        &mut sums,
-        extent,
-        wavelet,
-        below,
-    );
+    let bad = synthesise_levels(work, coefficients, &mut halves, extent, wavelet, below);
     if bad != 0 {
         return bad;
     }
@@ -162,7 +150,6 @@ pub fn synthesise_samples(
         samples,
         coefficients,
         &mut halves,
-        &mut sums,
         extent,
         wavelet,
         below,

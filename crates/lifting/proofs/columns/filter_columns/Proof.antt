@@ -22,7 +22,7 @@ use Rattle.lifting.proofs.columns.filter_columns.Statement.{statement}
 use Rattle.lifting.proofs.columns.filter_columns.Tie as tie
 
 abbrev Inv-loop : tie.InvT-loop
-Inv-loop work₀ sums₀ frame wavelet most count size reach₀ k₀ work sums reach k =
+Inv-loop work₀ frame wavelet most count size reach₀ k₀ work reach k =
     let height = 2 * frame .«band_rows» in
     let width = 2 * frame .«band_columns» in
     let before = pictureOf (frame .stride) work₀ in
@@ -34,7 +34,7 @@ Inv-loop work₀ sums₀ frame wavelet most count size reach₀ k₀ work sums r
     × ColumnsReach frame reach work
 
 abbrev μ-loop : tie.MeasureT-loop
-μ-loop work₀ sums₀ frame wavelet most count size reach₀ k₀ work sums reach k = count - k
+μ-loop work₀ frame wavelet most count size reach₀ k₀ work reach k = count - k
 
 step-count-requires : tie.Need-step-count-requires Inv-loop μ-loop
 step-count-requires c κs = search needs
@@ -55,7 +55,7 @@ step-at-requires c κs =
 
 lift-columns-requires : tie.Need-lift-columns-requires Inv-loop μ-loop
 lift-columns-requires c κs =
-    let step = c .before .before in
+    let step = c .before in
     let head = step .before .before in
     (placed-same _ _ _ (head .before .before .pre .0 .0) (head .loop .inv .1), step .step-at .ensures .1, head .loop .inv .4)
 
@@ -72,12 +72,12 @@ next c =
     ∙ ap columns (c .step-at .ensures .0)
 
 same-length : tie.Need-same-length Inv-loop μ-loop
-same-length c = c .before .before .lift-columns .kept .0 ∙ c .before .before .before .before .before .before .before .loop .inv .1
+same-length c = c .before .before .lift-columns .kept .0 ∙ c .before .before .before .before .before .before .loop .inv .1
 
 returns : tie.Need-returns Inv-loop μ-loop
 returns c =
     let after = c .before .before in
-    let step = after .before .before .before in
+    let step = after .before .before in
     let head = step .before .before in
     let placed = head .before .before .pre .0 .0 in
     let same = run-same _ _ (twice-length _ (placed .rows-least)) (twice-length _ (placed .columns-least)) (columns (stepOf (step .step-at .result))) in (
@@ -89,7 +89,7 @@ returns c =
 
 reach-after-requires : tie.Need-reach-after-requires Inv-loop μ-loop
 reach-after-requires c κs =
-    let step = c .before .before .before .before .before in
+    let step = c .before .before .before .before in
     let reach = step .before .before .loop .inv .4 in
     (step .step-at .ensures .1, reach .0, reach .1)
 
@@ -102,7 +102,7 @@ loop-less c = omega arith
 loop-again : tie.Need-loop-again Inv-loop μ-loop
 loop-again c =
     let after = c .before .before .before in
-    let step = after .before .before .before in
+    let step = after .before .before in
     let head = step .before .before in
     let placed = head .before .before .pre .0 .0 in
     let yes = not-false (after .lift-columns .result) (c .before .if1 .left) in

@@ -21,7 +21,7 @@ use Rattle.lifting.proofs.columns.lift_columns.Statement.{statement}
 use Rattle.lifting.proofs.columns.lift_columns.Tie as tie
 
 abbrev Inv-loop : tie.InvT-loop
-Inv-loop work₀ sums₀ frame step reach pairs k₀ work sums k =
+Inv-loop work₀ frame step reach pairs k₀ work k =
     let width = 2 * frame .«band_columns» in
     let before = pictureOf (frame .stride) work₀ in
     (k ≤ frame .«band_rows»)
@@ -30,7 +30,7 @@ Inv-loop work₀ sums₀ frame step reach pairs k₀ work sums k =
     × Partly step (frame .«band_rows») width before k (pictureOf (frame .stride) work)
 
 abbrev μ-loop : tie.MeasureT-loop
-μ-loop work₀ sums₀ frame step reach pairs k₀ work sums k = pairs - k
+μ-loop work₀ frame step reach pairs k₀ work k = pairs - k
 
 loop-holds : tie.Need-loop-holds Inv-loop μ-loop
 loop-holds c = (omega arith, refl, all-none _, partly-none _ _ _ _)
@@ -38,9 +38,9 @@ loop-holds c = (omega arith, refl, all-none _, partly-none _ _ _ _)
 lift-row-requires : tie.Need-lift-row-requires Inv-loop μ-loop
 unfolding pictureOf
 lift-row-requires c κs =
-    let head = c .before .before .before in
+    let head = c .before .before in
     let start = head .before in
-    let now = c .before .before .loop-test .taken in
+    let now = c .before .loop-test .taken in
     let reach = start .pre .2 in (
       (placed-same _ _ _ (start .pre .0) (head .loop .inv .1), start .pre .1, now, reach .0, reach .1),
       (
@@ -52,23 +52,23 @@ lift-row-requires c κs =
 -- whether the new numbers of this pair fit
 told :
     (c : tie.After-lift-row Inv-loop μ-loop)
-    → let head = c .before .before .before .before in
+    → let head = c .before .before .before in
     let start = head .before in
     let width = 2 * start .args .frame .«band_columns» in
     allBelow width (λ column. fits32 (run (2 * start .args .frame .«band_rows») width (columns (stepOf (start .args .step))) (pictureOf (start .args .frame .stride) (start .args .work .now)) (targetRow (start .args .step .even) (head .loop .k)) column))
     ≡ c .lift-row .result
 told c =
-    let head = c .before .before .before .before in
-    sym (fits-now _ _ _ _ (head .before .pre .0 .rows-least) (head .loop .k) (c .before .before .before .loop-test .taken) _ (head .loop .inv .3)) ∙ sym (c .lift-row .ensures .0)
+    let head = c .before .before .before in
+    sym (fits-now _ _ _ _ (head .before .pre .0 .rows-least) (head .loop .k) (c .before .before .loop-test .taken) _ (head .loop .inv .3)) ∙ sym (c .lift-row .ensures .0)
 
 same-length : tie.Need-same-length Inv-loop μ-loop
-same-length c = c .before .before .lift-row .kept .0 ∙ c .before .before .before .before .before .before .loop .inv .1
+same-length c = c .before .before .lift-row .kept .0 ∙ c .before .before .before .before .before .loop .inv .1
 
 returns : tie.Need-returns Inv-loop μ-loop
 returns c =
     let after = c .before .before in
-    let head = after .before .before .before .before in (
-      sym (new-rows _ _ _ _ ∙ all-not _ _ (head .loop .k) (after .before .before .before .loop-test .taken) (told after ∙ not-true _ (c .if1 .taken))),
+    let head = after .before .before .before in (
+      sym (new-rows _ _ _ _ ∙ all-not _ _ (head .loop .k) (after .before .before .loop-test .taken) (told after ∙ not-true _ (c .if1 .taken))),
       (λ no. absurd (false≢true no), λ no. absurd (false≢true no)),
     )
 
@@ -81,10 +81,10 @@ loop-less c = omega arith
 loop-again : tie.Need-loop-again Inv-loop μ-loop
 loop-again c =
     let after = c .before .before in
-    let head = after .before .before .before .before in
+    let head = after .before .before .before in
     let start = head .before in
     let frame = start .args .frame in
-    let now = after .before .before .before .loop-test .taken in
+    let now = after .before .before .loop-test .taken in
     let yes = not-false (after .lift-row .result) (c .if1 .left) in
     let row = targetRow (start .args .step .even) (head .loop .k) in
     let room = row-room (frame .stride) row (2 * frame .«band_rows») (target-below _ _ _ now) in (

@@ -25,7 +25,7 @@ use Rattle.lifting.proofs.rows.filter_halves.Statement.{statement}
 use Rattle.lifting.proofs.rows.filter_halves.Tie as tie
 
 abbrev Inv-loop : tie.InvT-loop
-Inv-loop halves₀ sums₀ half wavelet steps count reach₀ k₀ halves sums reach k =
+Inv-loop halves₀ half wavelet steps count reach₀ k₀ halves reach k =
     let passes = take k (map rows (filterOf wavelet .steps)) in
     (k ≤ count)
     × (allNewFit 1 (2 * half) passes (λ row. woven halves₀) ≡ true)
@@ -33,7 +33,7 @@ Inv-loop halves₀ sums₀ half wavelet steps count reach₀ k₀ halves sums re
     × HalvesReach half reach halves
 
 abbrev μ-loop : tie.MeasureT-loop
-μ-loop halves₀ sums₀ half wavelet steps count reach₀ k₀ halves sums reach k = count - k
+μ-loop halves₀ half wavelet steps count reach₀ k₀ halves reach k = count - k
 
 step-count-requires : tie.Need-step-count-requires Inv-loop μ-loop
 step-count-requires c κs = search needs
@@ -45,7 +45,7 @@ loop-holds c = (omega arith, refl, (λ row x r h. refl), c .before .pre .1)
 -- the row of the next step: it is that step of the filter, and its pass is the next pass
 abbrev next : tie.In-loop Inv-loop μ-loop → LiftingStep
 next c =
-    getD (c .before .before .before .args .t5) (c .before .loop .k)
+    getD (c .before .before .before .args .t4) (c .before .loop .k)
     (record { even = false; adds = false; lead = 0; taps = []; count = 0; scale = 0; gain = 0 })
 
 inside : (c : tie.In-loop Inv-loop μ-loop) → c .before .loop .k < length (filterOf (c .before .before .before .args .wavelet) .steps)
@@ -71,13 +71,13 @@ mul-step c = omega (arith, array-copy-out-step c)
 
 lift-halves-requires : tie.Need-lift-halves-requires Inv-loop μ-loop
 lift-halves-requires c κs =
-    let turn = c .before .before .before in
+    let turn = c .before .before in
     let start = turn .before .before .before in
     ((start .pre .0 .0, start .pre .0 .1, is-step turn .1), turn .before .loop .inv .3)
 
 returns : tie.Need-returns Inv-loop μ-loop
 returns c =
-    let turn = c .before .before .before .before .before in
+    let turn = c .before .before .before .before in
     let head = turn .before in
     let same = rows-same _ _ (twice-length _ (head .before .before .pre .0 .0)) (stepOf (next turn)) in (
       sym
@@ -88,20 +88,20 @@ returns c =
 
 reach-after-requires : tie.Need-reach-after-requires Inv-loop μ-loop
 reach-after-requires c κs =
-    let turn = c .before .before .before .before .before in
+    let turn = c .before .before .before .before in
     let reach = turn .before .loop .inv .3 in
     (is-step turn .1, reach .0, reach .1)
 
 add-k : tie.Need-add-k Inv-loop μ-loop
-add-k c = omega (arith, c .before .before .before .before .before .before .loop-test .taken)
+add-k c = omega (arith, c .before .before .before .before .before .loop-test .taken)
 
 loop-less : tie.Need-loop-less Inv-loop μ-loop
-loop-less c = omega (arith, c .before .before .before .before .before .before .loop-test .taken)
+loop-less c = omega (arith, c .before .before .before .before .before .loop-test .taken)
 
 loop-again : tie.Need-loop-again Inv-loop μ-loop
 unfolding run
 loop-again c =
-    let turn = c .before .before .before .before .before .before in
+    let turn = c .before .before .before .before .before in
     let head = turn .before in
     let called = c .before .before .lift-halves in
     let went = not-false _ (c .before .if1 .left) in

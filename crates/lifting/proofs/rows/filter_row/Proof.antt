@@ -37,7 +37,7 @@ returns-2 c =
     let asked = c .before .before .has-shift in
     let tested = c .before .before .before .before .before in
     let filtered = tested .before .filter-row-halves in
-    let args = tested .before .before .before .before .before .args in
+    let args = tested .before .before .before .before .args in
     let went = not-false _ (tested .if1 .left) in (
       sym went ∙ filtered .ensures .0,
       λ fits. c .before .weave .ensures

@@ -29,15 +29,15 @@ copy-measured-requires-2 c κs = search needs
 cast-high-most : tie.Need-cast-high-most
 cast-high-most c = search needs
 
-add-t17 : tie.Need-add-t17
-add-t17 c = record { fits = omega (arith, c .before .before .copy-measured .ok) }
+add-t16 : tie.Need-add-t16
+add-t16 c = record { fits = omega (arith, c .before .before .copy-measured .ok) }
 
-add-t18 : tie.Need-add-t18
-add-t18 c = record { fits = omega (arith, c .copy-measured2 .ok) }
+add-t17 : tie.Need-add-t17
+add-t17 c = record { fits = omega (arith, c .copy-measured2 .ok) }
 
 filter-halves-requires : tie.Need-filter-halves-requires
 filter-halves-requires c κs =
-    let second = c .before .before in
+    let second = c .before in
     let first = second .before .before in
     let start = first .before .before in
     let low = first .copy-measured in
@@ -64,7 +64,7 @@ copied c =
 
 returns : tie.Need-returns
 returns c =
-    let second = c .before .before .before in
+    let second = c .before .before in
     let start = second .before .before .before .before in
     let steps = filterOf (start .args .wavelet) .steps in
     let halves = second .copy-measured2 .last .0 in (
@@ -84,7 +84,7 @@ filter-row-halves-spec =
     add-copy-measured
     copy-measured-requires-2
     cast-high-most
+    add-t16
     add-t17
-    add-t18
     filter-halves-requires
     returns)

@@ -14,12 +14,12 @@ use Rattle.lifting.proofs.rows.filter_rows.Statement.{statement}
 use Rattle.lifting.proofs.rows.filter_rows.Tie as tie
 
 abbrev Inv-loop : tie.InvT-loop
-Inv-loop work₀ halves₀ sums₀ wavelet half stride height steps row₀ work halves sums row =
+Inv-loop work₀ halves₀ wavelet half stride height steps row₀ work halves row =
     (row ≤ height) × (length work ≡ length work₀) × RowsMet (filterOf wavelet .steps) half stride work₀ work row
     × RowsDone (filterOf wavelet .steps) (filterOf wavelet .shift) half stride work₀ stride (2 * half) work row
 
 abbrev μ-loop : tie.MeasureT-loop
-μ-loop work₀ halves₀ sums₀ wavelet half stride height steps row₀ work halves sums row = height - row
+μ-loop work₀ halves₀ wavelet half stride height steps row₀ work halves row = height - row
 
 mul-height : tie.Need-mul-height Inv-loop μ-loop
 mul-height c = omega (arith, c .before .pre .0 .rows-most)
@@ -48,17 +48,17 @@ mul-filter-row c = omega (arith, inside (c .before), c .before .before .loop .in
 
 filter-row-requires : tie.Need-filter-row-requires Inv-loop μ-loop
 filter-row-requires c κs =
-    let turn = c .before .before .before in
+    let turn = c .before .before in
     let made = turn .before .before in
     let start = made .before .before in
     (start .pre .0 .columns-least, start .pre .0 .columns-most, inside turn, start .pre .1, made .filter-steps .ensures)
 
 same-length : tie.Need-same-length Inv-loop μ-loop
-same-length c = c .before .before .filter-row .kept .0 ∙ c .before .before .before .before .before .before .before .loop .inv .1
+same-length c = c .before .before .filter-row .kept .0 ∙ c .before .before .before .before .before .before .loop .inv .1
 
 returns : tie.Need-returns Inv-loop μ-loop
 returns c =
-    let turn = c .before .before .before .before .before .before in
+    let turn = c .before .before .before .before .before in
     let head = turn .before in
     let start = head .before .before .before in (
       sym
@@ -70,15 +70,15 @@ returns c =
 
 add-row : tie.Need-add-row Inv-loop μ-loop
 add-row c =
-    let turn = c .before .before .before .before .before .before in
+    let turn = c .before .before .before .before .before in
     omega (arith, turn .loop-test .taken, turn .before .before .before .before .pre .0 .rows-most)
 
 loop-less : tie.Need-loop-less Inv-loop μ-loop
-loop-less c = omega (arith, c .before .before .before .before .before .before .loop-test .taken)
+loop-less c = omega (arith, c .before .before .before .before .before .loop-test .taken)
 
 loop-again : tie.Need-loop-again Inv-loop μ-loop
 loop-again c =
-    let turn = c .before .before .before .before .before .before in
+    let turn = c .before .before .before .before .before in
     let head = turn .before in
     let start = head .before .before .before in
     let called = c .before .before .filter-row in

@@ -43,7 +43,7 @@ returns-2 c =
     let asked = stored .before .has-shift in
     let tested = stored .before .before .before .before in
     let filtered = tested .before .filter-row-halves in
-    let start = tested .before .before .before .before .before in
+    let start = tested .before .before .before .before in
     let args = start .args in
     let went = not-false _ (tested .if1 .left) in (
       sym went ∙ filtered .ensures .0,

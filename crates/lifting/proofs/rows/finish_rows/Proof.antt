@@ -18,14 +18,14 @@ use Rattle.lifting.proofs.rows.finish_rows.Statement.{statement}
 use Rattle.lifting.proofs.rows.finish_rows.Tie as tie
 
 abbrev Inv-loop : tie.InvT-loop
-Inv-loop work₀ samples₀ halves₀ sums₀ wavelet width height half stride rows steps row₀ work samples halves sums row =
+Inv-loop work₀ samples₀ halves₀ wavelet width height half stride rows steps row₀ work samples halves row =
     (row ≤ rows) × (length work ≡ length work₀) × (length samples ≡ length samples₀)
     × RowsMet (filterOf wavelet .steps) half stride work₀ work row
     × RowsDone (filterOf wavelet .steps) (filterOf wavelet .shift) half stride work₀ width width samples (min row height)
     × ((r x : ℕ) → r < row → x < 2 * half → getD work (r * stride + x) (pos 0) ≡ pos 0)
 
 abbrev μ-loop : tie.MeasureT-loop
-μ-loop work₀ samples₀ halves₀ sums₀ wavelet width height half stride rows steps row₀ work samples halves sums row = rows - row
+μ-loop work₀ samples₀ halves₀ wavelet width height half stride rows steps row₀ work samples halves row = rows - row
 
 mul-rows : tie.Need-mul-rows Inv-loop μ-loop
 mul-rows c = omega (arith, c .before .pre .0 .0 .rows-most)
@@ -72,7 +72,7 @@ mul-finish-row-2 c = omega (arith, kept-inside (c .before .before) .1, c .before
 
 finish-row-requires : tie.Need-finish-row-requires Inv-loop μ-loop
 finish-row-requires c κs =
-    let kept = c .before .before .before .before in
+    let kept = c .before .before .before in
     let made = kept .before .before .before in
     let start = made .before .before in
     let columns = kept-inside kept in (
@@ -81,14 +81,14 @@ finish-row-requires c κs =
     )
 
 same-length : tie.Need-same-length Inv-loop μ-loop
-same-length c = c .before .before .before .finish-row .kept .0 ∙ c .before .before .before .before .before .before .before .before .before .before .loop .inv .1
+same-length c = c .before .before .before .finish-row .kept .0 ∙ c .before .before .before .before .before .before .before .before .before .loop .inv .1
 
 same-length-2 : tie.Need-same-length-2 Inv-loop μ-loop
-same-length-2 c = c .before .before .before .finish-row .kept .1 .1 .0 ∙ c .before .before .before .before .before .before .before .before .before .before .loop .inv .2
+same-length-2 c = c .before .before .before .finish-row .kept .1 .1 .0 ∙ c .before .before .before .before .before .before .before .before .before .loop .inv .2
 
 returns : tie.Need-returns Inv-loop μ-loop
 returns c =
-    let turn = c .before .before .before .before .before .before .before .before .before in
+    let turn = c .before .before .before .before .before .before .before .before in
     let head = turn .before in
     let start = head .before .before .before in (
       sym
@@ -100,15 +100,15 @@ returns c =
 
 add-row : tie.Need-add-row Inv-loop μ-loop
 add-row c =
-    let turn = c .before .before .before .before .before .before .before .before .before in
+    let turn = c .before .before .before .before .before .before .before .before in
     omega (arith, turn .loop-test .taken, turn .before .before .before .before .pre .0 .0 .rows-most)
 
 loop-less : tie.Need-loop-less Inv-loop μ-loop
-loop-less c = omega (arith, c .before .before .before .before .before .before .before .before .before .loop-test .taken)
+loop-less c = omega (arith, c .before .before .before .before .before .before .before .before .loop-test .taken)
 
 loop-again : tie.Need-loop-again Inv-loop μ-loop
 loop-again c =
-    let kept = c .before .before .before .before .before .before .before .before in
+    let kept = c .before .before .before .before .before .before .before in
     let turn = kept .before in
     let head = turn .before in
     let start = head .before .before .before in

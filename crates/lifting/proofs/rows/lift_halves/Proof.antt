@@ -9,24 +9,24 @@ use Rattle.lifting.proofs.rows.lift_halves.Tie as tie
 
 lift-half-requires : tie.Need-lift-half-requires
 lift-half-requires c κs =
-    let start = c .before .before .before in
+    let start = c .before .before in
     let args = start .args in
     let reach = start .pre .1 in
-    let within = halves-before (args .step) (args .half) true (c .before .before .if1 .taken) (args .reach) (args .halves .now) reach in
+    let within = halves-before (args .step) (args .half) true (c .before .if1 .taken) (args .reach) (args .halves .now) reach in
     (start .pre .0, ((omega arith, omega arith, λ i j h k. omega arith), (reach .0, reach .1, within .0, within .1)))
 
 lift-half-requires-2 : tie.Need-lift-half-requires-2
 lift-half-requires-2 c κs =
-    let start = c .before .before .before in
+    let start = c .before .before in
     let args = start .args in
     let reach = start .pre .1 in
-    let within = halves-before (args .step) (args .half) false (c .before .before .if1 .left) (args .reach) (args .halves .now) reach in
+    let within = halves-before (args .step) (args .half) false (c .before .if1 .left) (args .reach) (args .halves .now) reach in
     (start .pre .0, ((omega arith, omega arith, λ i j h k. omega arith), (reach .0, reach .1, within .0, within .1)))
 
 returns : tie.Need-returns
 returns c =
-    let even = c .before .before .before .if1 .taken in
-    let start = c .before .before .before .before in
+    let even = c .before .before .if1 .taken in
+    let start = c .before .before .before in
     let args = start .args in
     let lifted = c .lift-half .ensures in (
       lifted .0 ∙ sym (halves-new (args .step) (args .half) (args .halves .now) true even),
@@ -38,8 +38,8 @@ returns c =
 
 returns-2 : tie.Need-returns-2
 returns-2 c =
-    let odd = c .before .before .before .if1 .left in
-    let start = c .before .before .before .before in
+    let odd = c .before .before .if1 .left in
+    let start = c .before .before .before in
     let args = start .args in
     let lifted = c .lift-half2 .ensures in (
       lifted .0 ∙ sym (halves-new (args .step) (args .half) (args .halves .now) false odd),

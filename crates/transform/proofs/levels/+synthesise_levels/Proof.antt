@@ -25,15 +25,15 @@ use Rattle.transform.proofs.levels.synthesise_level.Reads as synthesise
 use Rattle.transform.proofs.levels.+synthesise_levels.{statement}
 use Rattle.transform.proofs.levels.+synthesise_levels.Tie.{close}
 
-abbrev μ-levels : Measures 4 levels-kinds.ps ℕ
-μ-levels κs a = a .1 .1 .1 .1 .1 .1 .0
+abbrev μ-levels : Measures 3 levels-kinds.ps ℕ
+μ-levels κs a = a .1 .1 .1 .1 .1 .0
 
 -- what the function is given at the measure t, and what a call of it asks below t
-abbrev levels-at : ℕ → In 4 levels-kinds.ps
-levels-at t = and 4 levels-kinds.ps (is 4 levels-kinds.ps μ-levels t) levels.Pre
+abbrev levels-at : ℕ → In 3 levels-kinds.ps
+levels-at t = and 3 levels-kinds.ps (is 3 levels-kinds.ps μ-levels t) levels.Pre
 
-abbrev levels-below : ℕ → In 4 levels-kinds.ps
-levels-below t = and 4 levels-kinds.ps (falls 4 levels-kinds.ps _<_ μ-levels t) levels.Pre
+abbrev levels-below : ℕ → In 3 levels-kinds.ps
+levels-below t = and 3 levels-kinds.ps (falls 3 levels-kinds.ps _<_ μ-levels t) levels.Pre
 
 module _ (t : ℕ) where
   abbrev Entry : Type 0
@@ -113,7 +113,7 @@ module _ (t : ℕ) where
     synthesise-level-reads.Learnt,
   ) (levels-at t) levels.Post
   synthesise-levels-requires c κs =
-      let start = c .before .before .before .before in
+      let start = c .before .before .before in
       (omega (arith, start .pre .0), (start .pre .1 .0, start .pre .1 .1, start .pre .1 .2, omega (arith, start .pre .1 .3)))
 
   same-length-2 : levels-lts.Need-same-length-2 (
@@ -135,9 +135,9 @@ module _ (t : ℕ) where
     synthesise-level-reads.Learnt,
   ) (levels-at t) levels.Post
   returns-2 c =
-      let start = c .before .before .before .before .before .before .before in
+      let start = c .before .before .before .before .before .before in
       let n = start .args .n in
-      let up : suc (n - 1) ≡ n = omega (arith, c .before .before .before .before .before .before .if1 .left) in
+      let up : suc (n - 1) ≡ n = omega (arith, c .before .before .before .before .before .if1 .left) in
       let told = c .before .before .synthesise-levels .ensures .0 in
       let some = c .if2 .taken in (
         told
@@ -155,12 +155,12 @@ module _ (t : ℕ) where
     synthesise-level-reads.Learnt,
   ) (levels-at t) levels.Post
   synthesise-level-requires c κs =
-      let start = c .before .before .before .before .before .before .before .before .before .before in
-      let kept = c .before .before .before .before .before .synthesise-levels .kept .0 in (
+      let start = c .before .before .before .before .before .before .before .before in
+      let kept = c .before .before .before .before .synthesise-levels .kept .0 in (
         subst (Geometry (start .args .extent)) (sym kept) (start .pre .1 .0),
         start .pre .1 .1 ∙ sym kept,
         start .pre .1 .2,
-        omega (arith, start .pre .1 .3, c .before .before .before .before .before .before .before .before .before .if1 .left),
+        omega (arith, start .pre .1 .3, c .before .before .before .before .before .before .before .if1 .left),
       )
 
   same-length-3 : levels-lts.Need-same-length-3 (
@@ -171,7 +171,7 @@ module _ (t : ℕ) where
     synthesise-level-reads.Asked,
     synthesise-level-reads.Learnt,
   ) (levels-at t) levels.Post
-  same-length-3 c = c .before .before .synthesise-level .kept .0 ∙ c .before .before .before .before .before .before .before .before .synthesise-levels .kept .0
+  same-length-3 c = c .before .before .synthesise-level .kept .0 ∙ c .before .before .before .before .before .before .before .synthesise-levels .kept .0
 
   returns-3 : levels-lts.Need-returns-3 (
     copy-low-band-reads.Asked,
@@ -182,13 +182,13 @@ module _ (t : ℕ) where
     synthesise-level-reads.Learnt,
   ) (levels-at t) levels.Post
   returns-3 c =
-      let start = c .before .before .before .before .before .before .before .before .before .before .before .before .before in
+      let start = c .before .before .before .before .before .before .before .before .before .before .before in
       let n = start .args .n in
       let g = start .pre .1 .0 in
-      let up : suc (n - 1) ≡ n = omega (arith, c .before .before .before .before .before .before .before .before .before .before .before .before .if1 .left) in
-      let rest = c .before .before .before .before .before .before .before .before .synthesise-levels in
+      let up : suc (n - 1) ≡ n = omega (arith, c .before .before .before .before .before .before .before .before .before .before .if1 .left) in
+      let rest = c .before .before .before .before .before .before .before .synthesise-levels in
       let level = c .before .before .synthesise-level in
-      let none = c .before .before .before .before .before .before .if2 .left in
+      let none = c .before .before .before .before .before .if2 .left in
       let below : Picture = pictureOf (start .args .extent .«padded_width» * 2 ^ (start .args .extent .depth - (n - 1))) (rest .last .0) in
       let fits = level-fits (filterOf (start .args .wavelet)) _ _ (g .rows-least) (g .columns-least) (coefficient-picture start) (n - 1) below (rest .ensures .1 none) in (
         subst (λ (k : ℕ). 0 ≡ first-bad start k) up
@@ -208,7 +208,7 @@ module _ (t : ℕ) where
     synthesise-level-reads.Asked,
     synthesise-level-reads.Learnt,
   ) (levels-at t) levels.Post
-  same-length-4 c = c .before .before .synthesise-level .kept .0 ∙ c .before .before .before .before .before .before .before .before .synthesise-levels .kept .0
+  same-length-4 c = c .before .before .synthesise-level .kept .0 ∙ c .before .before .before .before .before .before .before .synthesise-levels .kept .0
 
   returns-4 : levels-lts.Need-returns-4 (
     copy-low-band-reads.Asked,
@@ -219,19 +219,19 @@ module _ (t : ℕ) where
     synthesise-level-reads.Learnt,
   ) (levels-at t) levels.Post
   returns-4 c =
-      let start = c .before .before .before .before .before .before .before .before .before .before .before .before .before in
+      let start = c .before .before .before .before .before .before .before .before .before .before .before in
       let n = start .args .n in
       let g = start .pre .1 .0 in
-      let up : suc (n - 1) ≡ n = omega (arith, c .before .before .before .before .before .before .before .before .before .before .before .before .if1 .left) in
-      let rest = c .before .before .before .before .before .before .before .before .synthesise-levels in
+      let up : suc (n - 1) ≡ n = omega (arith, c .before .before .before .before .before .before .before .before .before .before .if1 .left) in
+      let rest = c .before .before .before .before .before .before .before .synthesise-levels in
       let level = c .before .before .synthesise-level in
-      let none = c .before .before .before .before .before .before .if2 .left in
+      let none = c .before .before .before .before .before .if2 .left in
       let below : Picture = pictureOf (start .args .extent .«padded_width» * 2 ^ (start .args .extent .depth - (n - 1))) (rest .last .0) in
       let fits = level-fits (filterOf (start .args .wavelet)) _ _ (g .rows-least) (g .columns-least) (coefficient-picture start) (n - 1) below (rest .ensures .1 none) in (
         subst (λ (k : ℕ). k ≡ first-bad start k) up
             (bad-here (filterOf (start .args .wavelet)) _ _ (g .rows-least) (g .columns-least) (coefficient-picture start) (n - 1) (sym (rest .ensures .0) ∙ none)
             (sym fits ∙ sym (level .ensures .0) ∙ c .if3 .left)),
-        λ e. absurd (c .before .before .before .before .before .before .before .before .before .before .before .before .if1 .left e),
+        λ e. absurd (c .before .before .before .before .before .before .before .before .before .before .if1 .left e),
       )
 
 pub +synthesise-levels-spec : {M : Type 1} → statement M

@@ -48,11 +48,11 @@ interleave-bands-requires c κs =
 
 filter-columns-requires : tie.Need-filter-columns-requires
 filter-columns-requires c κs =
-    let bands = c .before .before .before .interleave-bands in
-    ((placed-in (c .before .before .before .before .before) _ (bands .kept .0), c .before .before .before .before .before .before .pre .0 .2), bands .ensures .1)
+    let bands = c .before .before .interleave-bands in
+    ((placed-in (c .before .before .before .before) _ (bands .kept .0), c .before .before .before .before .before .pre .0 .2), bands .ensures .1)
 
 same-length : tie.Need-same-length
-same-length c = c .before .before .filter-columns .kept .0 ∙ c .before .before .before .before .before .before .interleave-bands .kept .0
+same-length c = c .before .before .filter-columns .kept .0 ∙ c .before .before .before .before .before .interleave-bands .kept .0
 
 -- what the level's bands and the picture below make up, by the frame and by the contract
 module _ (c : tie.After-next-frame) where
@@ -79,9 +79,9 @@ module _ (c : tie.After-next-frame) where
 returns : tie.Need-returns
 unfolding sizeAt halvesOf pictureOf
 returns c =
-    let framed = c .before .before .before .before .before .before .before .before in
+    let framed = c .before .before .before .before .before .before .before in
     let frame = framed .next-frame .result in
-    let bands = c .before .before .before .before .before .before .interleave-bands in
+    let bands = c .before .before .before .before .before .interleave-bands in
     let sizes = placed-in framed (start-work framed) refl in (
       by-extent framed
           (λ bh bw s s2. false ≡ allNewFit (2 * bh) (2 * bw) (synthesisPasses (filterOf (framed .before .args .wavelet))) (interleave bh bw (pictureOf s2 (start-work framed)) (coefficient-picture framed)))
@@ -97,15 +97,15 @@ returns c =
 finish-rows-requires : tie.Need-finish-rows-requires
 unfolding sizeAt
 finish-rows-requires c κs =
-    let framed = c .before .before .before .before .before .before .before .before .before .before .before .before in
+    let framed = c .before .before .before .before .before .before .before .before .before .before in
     let start = framed .before in
     let told = framed .next-frame .ensures in (
-      (placed-in framed _ (c .before .before .before .before .before .before .filter-columns .kept .0 ∙ c .before .before .before .before .before .before .before .before .before .before .interleave-bands .kept .0), start .pre .0 .2),
+      (placed-in framed _ (c .before .before .before .before .before .filter-columns .kept .0 ∙ c .before .before .before .before .before .before .before .before .interleave-bands .kept .0), start .pre .0 .2),
       (rw (told .2) (start .pre .1 .0), rw (told .1) (start .pre .1 .1), start .pre .1 .2),
     )
 
 same-length-2 : tie.Need-same-length-2
-same-length-2 c = c .before .before .finish-rows .kept .0 ∙ c .before .before .before .before .before .before .before .before .before .filter-columns .kept .0 ∙ c .before .before .before .before .before .before .before .before .before .before .before .before .before .interleave-bands .kept .0
+same-length-2 c = c .before .before .finish-rows .kept .0 ∙ c .before .before .before .before .before .before .before .before .filter-columns .kept .0 ∙ c .before .before .before .before .before .before .before .before .before .before .before .interleave-bands .kept .0
 
 same-length-3 : tie.Need-same-length-3
 same-length-3 c = c .before .before .finish-rows .kept .1 .0
@@ -113,17 +113,17 @@ same-length-3 c = c .before .before .finish-rows .kept .1 .0
 returns-2 : tie.Need-returns-2
 unfolding sizeAt halvesOf pictureOf
 returns-2 c =
-    let framed = c .before .before .before .before .before .before .before .before .before .before .before .before .before .before .before in
+    let framed = c .before .before .before .before .before .before .before .before .before .before .before .before .before in
     let start = framed .before in
     let frame = framed .next-frame .result in
     let told = framed .next-frame .ensures in
-    let bands = c .before .before .before .before .before .before .before .before .before .before .before .before .before .interleave-bands in
+    let bands = c .before .before .before .before .before .before .before .before .before .before .before .interleave-bands in
     let sizes = placed-in framed (start-work framed) refl in
     let filter = filterOf (start .args .wavelet) in
-    let columns-ok = c .before .before .before .before .before .before .before .before .before .filter-columns in
+    let columns-ok = c .before .before .before .before .before .before .before .before .filter-columns in
     let rows-ok = c .before .before .finish-rows in
-    let passed = sym (columns-ok .ensures .0) ∙ not-false _ (c .before .before .before .before .before .before .before .if1 .left) in
-    let after = columns-ok .ensures .1 (not-false _ (c .before .before .before .before .before .before .before .if1 .left)) in
+    let passed = sym (columns-ok .ensures .0) ∙ not-false _ (c .before .before .before .before .before .before .if1 .left) in
+    let after = columns-ok .ensures .1 (not-false _ (c .before .before .before .before .before .before .if1 .left)) in
     let fewer-rows = start .pre .1 .1 in
     let fewer-columns = start .pre .1 .0 in (
       by-extent framed

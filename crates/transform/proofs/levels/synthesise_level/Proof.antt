@@ -45,11 +45,11 @@ interleave-bands-requires c κs =
 
 filter-columns-requires : tie.Need-filter-columns-requires
 filter-columns-requires c κs =
-    let bands = c .before .before .before .interleave-bands in
-    ((placed-in (c .before .before .before .before .before) _ (bands .kept .0), c .before .before .before .before .before .before .pre .2), bands .ensures .1)
+    let bands = c .before .before .interleave-bands in
+    ((placed-in (c .before .before .before .before) _ (bands .kept .0), c .before .before .before .before .before .pre .2), bands .ensures .1)
 
 same-length : tie.Need-same-length
-same-length c = c .before .before .filter-columns .kept .0 ∙ c .before .before .before .before .before .before .interleave-bands .kept .0
+same-length c = c .before .before .filter-columns .kept .0 ∙ c .before .before .before .before .before .interleave-bands .kept .0
 
 -- what the level's bands and the picture below make up, by the frame and by the contract
 module _ (c : tie.After-next-frame) where
@@ -77,40 +77,40 @@ module _ (c : tie.After-next-frame) where
 returns : tie.Need-returns
 unfolding sizeAt halvesOf pictureOf
 returns c =
-    let framed = c .before .before .before .before .before .before .before .before in
+    let framed = c .before .before .before .before .before .before .before in
     let frame = framed .next-frame .result in
     let sizes = placed-in framed (start-work framed) refl in (
       by-extent framed
           (λ bh bw s s2. false ≡ allNewFit (2 * bh) (2 * bw) (synthesisPasses (filterOf (framed .before .args .wavelet))) (interleave bh bw (pictureOf s2 (start-work framed)) (coefficient-picture framed)))
           (level-fails (filterOf (framed .before .args .wavelet)) (frame .«band_rows») (frame .«band_columns») (sizes .rows-least) (sizes .columns-least) (woven framed)
-          (pictureOf (frame .stride) (c .before .before .before .before .before .before .interleave-bands .last .0)) (c .before .before .before .before .before .before .interleave-bands .ensures .0)
+          (pictureOf (frame .stride) (c .before .before .before .before .before .interleave-bands .last .0)) (c .before .before .before .before .before .interleave-bands .ensures .0)
           (sym (c .before .before .filter-columns .ensures .0) ∙ not-true _ (c .if1 .taken))),
       λ e. let z : _≡_ {A = ℕ} 0 1 = cc in absurd (omega arith),
     )
 
 filter-rows-requires : tie.Need-filter-rows-requires
 filter-rows-requires c κs =
-    (placed-in (c .before .before .before .before .before .before .before .before .before .before .before) _ (c .before .before .before .before .before .filter-columns .kept .0 ∙ c .before .before .before .before .before .before .before .before .before .interleave-bands .kept .0), c .before .before .before .before .before .before .before .before .before .before .before .before .pre .2)
+    (placed-in (c .before .before .before .before .before .before .before .before .before) _ (c .before .before .before .before .filter-columns .kept .0 ∙ c .before .before .before .before .before .before .before .interleave-bands .kept .0), c .before .before .before .before .before .before .before .before .before .before .pre .2)
 
 same-length-2 : tie.Need-same-length-2
-same-length-2 c = c .before .filter-rows .kept .0 ∙ c .before .before .before .before .before .before .before .filter-columns .kept .0 ∙ c .before .before .before .before .before .before .before .before .before .before .before .interleave-bands .kept .0
+same-length-2 c = c .before .filter-rows .kept .0 ∙ c .before .before .before .before .before .before .filter-columns .kept .0 ∙ c .before .before .before .before .before .before .before .before .before .interleave-bands .kept .0
 
 returns-2 : tie.Need-returns-2
 unfolding sizeAt halvesOf pictureOf
 returns-2 c =
-    let framed = c .before .before .before .before .before .before .before .before .before .before .before .before .before in
+    let framed = c .before .before .before .before .before .before .before .before .before .before .before in
     let frame = framed .next-frame .result in
     let sizes = placed-in framed (start-work framed) refl in
     let filter = filterOf (framed .before .args .wavelet) in
-    let columns-ok = c .before .before .before .before .before .before .before .filter-columns in
+    let columns-ok = c .before .before .before .before .before .before .filter-columns in
     let rows-ok = c .before .filter-rows in
-    let passed = sym (columns-ok .ensures .0) ∙ not-false _ (c .before .before .before .before .before .if1 .left) in
-    let after = columns-ok .ensures .1 (not-false _ (c .before .before .before .before .before .if1 .left)) in (
+    let passed = sym (columns-ok .ensures .0) ∙ not-false _ (c .before .before .before .before .if1 .left) in
+    let after = columns-ok .ensures .1 (not-false _ (c .before .before .before .before .if1 .left)) in (
       by-extent framed
           (λ bh bw s s2. rows-ok .result ≡ allNewFit (2 * bh) (2 * bw) (synthesisPasses filter) (interleave bh bw (pictureOf s2 (start-work framed)) (coefficient-picture framed)))
           (rows-ok .ensures .0
           ∙ level-told filter (frame .«band_rows») (frame .«band_columns») (sizes .rows-least) (sizes .columns-least) (woven framed)
-          (pictureOf (frame .stride) (c .before .before .before .before .before .before .before .before .before .before .before .interleave-bands .last .0)) (c .before .before .before .before .before .before .before .before .before .before .before .interleave-bands .ensures .0) passed
+          (pictureOf (frame .stride) (c .before .before .before .before .before .before .before .before .before .interleave-bands .last .0)) (c .before .before .before .before .before .before .before .before .before .interleave-bands .ensures .0) passed
           (pictureOf (frame .stride) (columns-ok .last .0)) after
           (λ e. rows-ok .ensures .1 .1 (rows-ok .ensures .0 ∙ e))),
       λ e.
@@ -119,7 +119,7 @@ returns-2 c =
           (λ row x r i.
           rows-ok .ensures .1 .0 e row x r i
           ∙ level-at filter (frame .«band_rows») (frame .«band_columns») (sizes .rows-least) (sizes .columns-least) (woven framed)
-          (pictureOf (frame .stride) (c .before .before .before .before .before .before .before .before .before .before .before .interleave-bands .last .0)) (c .before .before .before .before .before .before .before .before .before .before .before .interleave-bands .ensures .0) passed
+          (pictureOf (frame .stride) (c .before .before .before .before .before .before .before .before .before .interleave-bands .last .0)) (c .before .before .before .before .before .before .before .before .before .interleave-bands .ensures .0) passed
           (pictureOf (frame .stride) (columns-ok .last .0)) after row x r i),
     )
 

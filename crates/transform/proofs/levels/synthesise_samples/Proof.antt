@@ -54,7 +54,7 @@ same-length c = search needs
 
 returns : tie.Need-returns
 returns c =
-    let start = c .before .before .before .before .before .before .before in
+    let start = c .before .before .before .before .before .before in
     let told = c .before .before .synthesise-levels .ensures .0 in
     let some = c .if1 .taken in
     let g = start .pre .0 .0 in (
@@ -66,8 +66,8 @@ returns c =
 
 finish-level-requires : tie.Need-finish-level-requires
 finish-level-requires c κs =
-    let start = c .before .before .before .before .before .before .before .before .before .before .before in
-    let kept = c .before .before .before .before .before .before .synthesise-levels .kept .0 in
+    let start = c .before .before .before .before .before .before .before .before .before in
+    let kept = c .before .before .before .before .before .synthesise-levels .kept .0 in
     let sizes = start .pre .1 in (
       (subst (Geometry (start .args .extent)) (sym kept) (start .pre .0 .0), start .pre .0 .1 ∙ sym kept, start .pre .0 .2, up start),
       (
@@ -85,12 +85,12 @@ same-length-3 c = search needs
 
 returns-2 : tie.Need-returns-2
 returns-2 c =
-    let start = c .before .before .before .before .before .before .before .before .before .before .before .before .before .before .before in
+    let start = c .before .before .before .before .before .before .before .before .before .before .before .before .before in
     let g = start .pre .0 .0 in
     let n = below start in
-    let rest = c .before .before .before .before .before .before .before .before .before .before .synthesise-levels in
+    let rest = c .before .before .before .before .before .before .before .before .before .synthesise-levels in
     let level = c .before .before .before .finish-level in
-    let none = c .before .before .before .before .before .before .before .before .if1 .left in
+    let none = c .before .before .before .before .before .before .before .if1 .left in
     let fits = c .if2 .taken in
     let picture : Picture = pictureOf (start .args .extent .«padded_width» * 2 ^ (start .args .extent .depth - n)) (rest .last .0) in
     let built : Picture = runAll (sizeAt (rows start) (suc n)) (sizeAt (columns start) (suc n)) (synthesisPasses (filter start)) (interleave (sizeAt (rows start) n) (sizeAt (columns start) n) picture (coefficient-picture start)) in
@@ -116,12 +116,12 @@ same-length-5 c = search needs
 
 returns-3 : tie.Need-returns-3
 returns-3 c =
-    let start = c .before .before .before .before .before .before .before .before .before .before .before .before .before .before .before in
+    let start = c .before .before .before .before .before .before .before .before .before .before .before .before .before in
     let g = start .pre .0 .0 in
     let n = below start in
-    let rest = c .before .before .before .before .before .before .before .before .before .before .synthesise-levels in
+    let rest = c .before .before .before .before .before .before .before .before .before .synthesise-levels in
     let level = c .before .before .before .finish-level in
-    let none = c .before .before .before .before .before .before .before .before .if1 .left in
+    let none = c .before .before .before .before .before .before .before .if1 .left in
     let picture : Picture = pictureOf (start .args .extent .«padded_width» * 2 ^ (start .args .extent .depth - n)) (rest .last .0) in
     let test = level-fits (filter start) (rows start) (columns start) (g .rows-least) (g .columns-least) (coefficient-picture start) n picture (rest .ensures .1 none) in (
       subst (λ (k : ℕ). k ≡ first-bad start k) (up start)

@@ -1,0 +1,81 @@
+-- `tap_pairs::lift_single` meets its contract: each call is of the step that was found to be the one asked for.
+-- Assumes nothing.
+use mathlib.Core.Path.{_≡_, _∙_}
+use mathlib.Core.Bool.{true, false}
+use borrow.Author.Needs.{needs}
+use mir.Syntax.{w32}
+use mir.Val.{toZ, ofZ}
+use Rattle.base.proofs.Ranges.{back}
+use Rattle.tap_pairs.proofs.PairLaws.{known, known-by}
+use Rattle.tap_pairs.proofs.lift_single.Statement.{statement}
+use Rattle.tap_pairs.proofs.lift_single.Tie as tie
+
+-- the taps as they are handed on
+tap-0 : (s : tie.Start) → toZ w32 (ofZ w32 (s .args .t0)) ≡ s .args .t0
+tap-0 s = back w32 (s .args .t0) (s .fits .t0 .sfits)
+
+tap-1 : (s : tie.Start) → toZ w32 (ofZ w32 (s .args .t1)) ≡ s .args .t1
+tap-1 s = back w32 (s .args .t1) (s .fits .t1 .sfits)
+
+tap-2 : (s : tie.Start) → toZ w32 (ofZ w32 (s .args .t2)) ≡ s .args .t2
+tap-2 s = back w32 (s .args .t2) (s .fits .t2 .sfits)
+
+tap-3 : (s : tie.Start) → toZ w32 (ofZ w32 (s .args .t3)) ≡ s .args .t3
+tap-3 s = back w32 (s .args .t3) (s .fits .t3 .sfits)
+
+is-step-requires : tie.Need-is-step-requires
+is-step-requires c κs = search needs
+
+lift-by-requires : tie.Need-lift-by-requires
+lift-by-requires c κs =
+    let s = c .before .before .before in
+    known _ _ _ _ _ _ _ (rw (tap-0 s, tap-1 s, tap-2 s, tap-3 s) at (c .before .before .is-step .ensures (c .before .if1 .taken))) false (s .pre)
+
+same-length : tie.Need-same-length
+same-length c = search needs
+
+returns : tie.Need-returns
+returns c =
+    let s = c .before .before .before .before .before in
+    c .before .lift-by .ensures ∙ known-by _ _ _ _ _ _ _ (rw (tap-0 s, tap-1 s, tap-2 s, tap-3 s) at (c .before .before .before .before .is-step .ensures (c .before .before .before .if1 .taken)))
+
+is-step-requires-2 : tie.Need-is-step-requires-2
+is-step-requires-2 c κs = search needs
+
+lift-by-requires-2 : tie.Need-lift-by-requires-2
+lift-by-requires-2 c κs =
+    let s = c .before .before .before .before .before in
+    known _ _ _ _ _ _ _ (rw (tap-0 s, tap-1 s, tap-2 s, tap-3 s) at (c .before .before .is-step2 .ensures (c .before .if2 .taken))) false (s .pre)
+
+same-length-2 : tie.Need-same-length-2
+same-length-2 c = search needs
+
+returns-2 : tie.Need-returns-2
+returns-2 c =
+    let s = c .before .before .before .before .before .before .before in
+    c .before .lift-by2 .ensures ∙ known-by _ _ _ _ _ _ _ (rw (tap-0 s, tap-1 s, tap-2 s, tap-3 s) at (c .before .before .before .before .is-step2 .ensures (c .before .before .before .if2 .taken)))
+
+lift-by-requires-3 : tie.Need-lift-by-requires-3
+lift-by-requires-3 c κs = let s = c .before .before .before .before .before in rw (tap-0 s, tap-1 s, tap-2 s, tap-3 s) (s .pre)
+
+same-length-3 : tie.Need-same-length-3
+same-length-3 c = search needs
+
+returns-3 : tie.Need-returns-3
+returns-3 c = let s = c .before .before .before .before .before .before .before in rw (tap-0 s, tap-1 s, tap-2 s, tap-3 s) at (c .before .lift-by3 .ensures)
+
+pub lift-single-spec : {M : Type 1} → statement M
+lift-single-spec =
+    tie.close
+    (tie.spec
+    is-step-requires
+    lift-by-requires
+    same-length
+    returns
+    is-step-requires-2
+    lift-by-requires-2
+    same-length-2
+    returns-2
+    lift-by-requires-3
+    same-length-3
+    returns-3)
