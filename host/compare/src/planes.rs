@@ -169,9 +169,10 @@ pub fn safe_size(wavelet: u32) -> i64 {
     (0..31).rev().fold(0, with_bit)
 }
 
-/// A size near a power of two from 2^14 to 2^31, or near what a filter surely lifts in 32 bits.
+/// A size near a power of two from 2^10 to 2^31, or near what a filter surely lifts in 32 bits. From 2^10 to
+/// 2^14 the numbers of one step or another come to leave the 15 bits whose products are cheap.
 fn random_size(random: &mut Random, wavelet: u32) -> i32 {
-    let power = 1 << random.range(14, 31);
+    let power = 1 << random.range(10, 31);
     let near = random.pick(&[power, power, safe_size(wavelet), 1 << 16]);
     let size = near + random.range(-3, 3);
     size.min(i32::MAX.into()) as i32

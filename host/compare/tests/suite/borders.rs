@@ -219,7 +219,7 @@ fn planes_have_every_size_at_which_a_path_may_end() {
         if case.plane_kind == PlaneKind::Sized {
             let size = |&number: &i32| i64::from(number.max(!number));
             let largest = case.coefficients.iter().map(size).max().unwrap();
-            let powers = (14..=31).map(|power| 1 << power);
+            let powers = (10..=31).map(|power| 1 << power);
             for (k, bound) in powers.chain([safe_size(p.wavelet)]).enumerate() {
                 if (largest - bound).abs() <= 4 {
                     near.insert((p.wavelet, k, largest >= bound));
@@ -229,7 +229,7 @@ fn planes_have_every_size_at_which_a_path_may_end() {
     }
     assert_eq!(kinds.len(), 6);
     // Below each bound and above it, but nothing is above 2^31.
-    assert_eq!(near.len(), 7 * (2 * 19 - 1));
+    assert_eq!(near.len(), 7 * (2 * 23 - 1));
     // Accepted and refused, with each wavelet.
     assert_eq!(brink.len(), 14);
     assert!(brink.values().all(|&count| count > 100), "{brink:?}");
