@@ -1,10 +1,10 @@
 -- A line that may be lifted by its taps may be lifted by their pairs, and becomes the same.
 -- Assumes nothing.
-use mathlib.Core.Path.{_≡_, refl, sym, ap, _∙_, subst}
+use mathlib.Core.Path.{_≡_, refl, sym, ap, _∙_}
 use mathlib.Core.Logic.{_≢_}
 use mathlib.Core.Bool.{Bool, true, false}
 use mathlib.Core.List.{List}
-use Prim.Native.Nat.{ℕ, zero, suc, _+_, _-_, _*_, _/_, _^_, _≤_, _<_}
+use Prim.Native.Nat.{ℕ, _+_, _-_, _*_, _^_, _≤_, _<_}
 use native.Mathlib.Decide.{decLt, ℕ-discrete}
 use native.Mathlib.Nat.{mul-le-mul-right}
 use native.Mathlib.Omega.{arith}
@@ -17,7 +17,7 @@ use Rattle.base.specs.Fill.{fill}
 use Rattle.base.proofs.Fills.{fill-same}
 use Rattle.lines.specs.Buffers.{Symmetric}
 use Rattle.lines.specs.Sums.{sumBelow, tapAt, changed}
-use Rattle.tap_pairs.specs.Pairs.{paired, pairSize, pairMost, pairSum, pairGives, readAt, newAt, liftedBy, Liftable, Read, halfOf, pairTap, pairPlace, heldPair}
+use Rattle.tap_pairs.specs.Pairs.{paired, pairSize, pairMost, pairSum, pairGives, readAt, liftedBy, Liftable, Read, halfOf, pairTap, pairPlace}
 use Rattle.lines.proofs.SumLaws.{tap-size, sum-one, zero-added}
 use Rattle.tap_pairs.proofs.PairingLaws.{held-in, held-below, pairs-summed, pairs-room}
 

@@ -1,6 +1,6 @@
 -- `tap_pairs::held_pair` meets its contract: by the two cases of its test.
 -- Assumes nothing.
-use mathlib.Core.Path.{_≡_, sym}
+use mathlib.Core.Path.{sym}
 use Rattle.tap_pairs.proofs.PairingLaws.{held-in, held-out}
 use Rattle.tap_pairs.proofs.held_pair.Statement.{statement}
 use Rattle.tap_pairs.proofs.held_pair.Tie as tie

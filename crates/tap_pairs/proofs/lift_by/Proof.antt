@@ -14,7 +14,7 @@ use Rattle.base.specs.Fill.{fill}
 use Rattle.base.proofs.Fills.{fill-none, fill-more, getD-fill-out}
 use Rattle.base.proofs.Ranges.{back}
 use Rattle.lines.specs.Sums.{changed}
-use Rattle.tap_pairs.specs.Pairs.{paired, pairSize, pairMost, pairSum, pairGives, readAt, newAt, liftedBy}
+use Rattle.tap_pairs.specs.Pairs.{paired, pairSum, pairGives, readAt, newAt, liftedBy}
 use Rattle.tap_pairs.proofs.PairLaws.{gives-size, room-first, room-second, room-third, room-fourth}
 use Rattle.tap_pairs.proofs.lift_by.Statement.{statement}
 use Rattle.tap_pairs.proofs.lift_by.Tie as tie

@@ -1,7 +1,6 @@
 -- `tap_pairs::lift_pairs` meets its contract: each function below is handed what it asks for, numbers that are narrow where it asks for narrow ones alone.
 -- Assumes nothing.
-use mathlib.Core.Path.{_≡_, _∙_}
-use mathlib.Core.Bool.{true, false}
+use mathlib.Core.Path.{_≡_}
 use borrow.Author.Needs.{needs}
 use mir.Syntax.{w32}
 use mir.Val.{toZ, ofZ}

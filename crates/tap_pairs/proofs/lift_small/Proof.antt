@@ -1,12 +1,11 @@
 -- `tap_pairs::lift_small` meets its contract: the taps are those of their pairs.
 -- Assumes nothing.
-use mathlib.Core.Path.{_≡_, refl, _∙_}
-use native.Mathlib.Omega.{arith}
+use mathlib.Core.Path.{_≡_, _∙_}
 use borrow.Author.Needs.{needs}
 use mir.Syntax.{w32}
 use mir.Val.{toZ, ofZ}
 use Rattle.base.proofs.Ranges.{back}
-use Rattle.tap_pairs.specs.Pairs.{pairTap, Liftable, liftedBy}
+use Rattle.tap_pairs.specs.Pairs.{pairTap}
 use Rattle.tap_pairs.proofs.LiftableLaws.{by-pairs, lifted-pairs}
 use Rattle.tap_pairs.proofs.lift_small.Statement.{statement}
 use Rattle.tap_pairs.proofs.lift_small.Tie as tie

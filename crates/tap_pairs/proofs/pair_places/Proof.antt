@@ -1,7 +1,7 @@
 -- `tap_pairs::pair_places` meets its contract: after j turns j places are stored.
 -- Assumes nothing.
 use mathlib.Core.Path.{_≡_, sym}
-use Prim.Native.Nat.{_+_, _-_, _≤_, _<_}
+use Prim.Native.Nat.{_-_, _≤_}
 use native.Mathlib.Omega.{arith}
 use Rattle.base.specs.Fill.{fill}
 use Rattle.base.proofs.Fills.{fill-none, fill-more, getD-fill-start}

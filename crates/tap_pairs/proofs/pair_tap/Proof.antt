@@ -1,6 +1,6 @@
 -- `tap_pairs::pair_tap` meets its contract: a pair that there is has a tap, and it fits 32 bits.
 -- Assumes nothing.
-use mathlib.Core.Path.{_≡_, refl, _∙_}
+use mathlib.Core.Path.{refl, _∙_}
 use Prim.Native.Nat.{_+_, _-_, _/_}
 use native.Mathlib.Omega.{arith}
 use borrow.Author.Needs.{needs}

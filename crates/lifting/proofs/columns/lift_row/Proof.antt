@@ -1,14 +1,13 @@
 -- `lifting::columns::lift_row` meets its contract: the sums are those of document 01 at each column, since each tap reads its own row, and no tap
 -- reads the row that is changed.
 -- Assumes nothing.
-use mathlib.Core.Path.{_≡_}
 use mathlib.Core.Logic.{_≢_}
 use Prim.Native.Nat.{ℕ, _+_, _*_, _≤_, _<_}
 use native.Mathlib.Omega.{arith}
 use borrow.Author.Needs.{needs}
 use lib.ListN.{length, getD}
 use Rattle.base.proofs.Grids.{row-room, rows-apart}
-use Rattle.lifting.specs.Layout.{sourceRow, targetRow}
+use Rattle.lifting.specs.Layout.{sourceRow}
 use Rattle.lifting.proofs.Frames.{target-below, source-below, source-other, lifted-row}
 use Rattle.lifting.proofs.columns.lift_row.Statement.{statement}
 use Rattle.lifting.proofs.columns.lift_row.Tie as tie

@@ -1,13 +1,11 @@
 -- `lifting::rows::lift_half` meets its contract: the sums are taken over the half that is read with its ends repeated, as the places that
 -- are held say, and lift the other half.
 -- Assumes nothing.
-use mathlib.Core.Path.{_≡_}
 use mathlib.Core.List.{List}
-use Prim.Native.Nat.{ℕ, _+_, _≤_, _<_}
+use Prim.Native.Nat.{_+_}
 use native.Mathlib.Omega.{arith}
 use borrow.Author.Needs.{needs}
 use lib.IntN.{ℤ}
-use lib.ListN.{length, getD}
 use Rattle.lifting.proofs.HalfLaws.{HalfRead, half-near, half-old, half-lifted}
 use Rattle.lifting.proofs.rows.lift_half.Statement.{statement}
 use Rattle.lifting.proofs.rows.lift_half.Tie as tie

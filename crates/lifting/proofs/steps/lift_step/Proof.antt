@@ -3,19 +3,19 @@
 -- Assumes nothing.
 use mathlib.Core.Path.{_≡_, refl, sym, _∙_}
 use mathlib.Core.Bool.{true}
-use Prim.Native.Nat.{ℕ, _+_, _*_, _^_, _≤_, _<_}
+use Prim.Native.Nat.{ℕ, _+_, _*_, _^_, _<_}
 use native.Mathlib.Nat.{lt-of-le-of-lt}
 use native.Mathlib.Omega.{arith}
 use borrow.Author.Needs.{needs}
-use lib.IntN.{ℤ, pos, natAbs, _+ℤ_}
-use lib.ListN.{length, getD}
+use lib.IntN.{pos, natAbs}
+use lib.ListN.{getD}
 use mir.Syntax.{w32, w64}
 use mir.Val.{toZ, ofZ}
 use Rattle.base.specs.Range.{fits32}
 use Rattle.base.proofs.Everys.{all-from, all-same}
 use Rattle.base.proofs.Fills.{fill-same}
 use Rattle.base.proofs.Ranges.{back}
-use Rattle.lines.specs.Sums.{sumBelow, tapAt, changed}
+use Rattle.lines.specs.Sums.{tapAt, changed}
 use Rattle.lines.proofs.SumLaws.{slight}
 use Rattle.lifting.specs.Lifting.{rounding}
 use Rattle.lifting.specs.Reach.{staysSmall, sourceReach, targetReach}
