@@ -1,7 +1,7 @@
 //! The decoders on one component: that they agree, and how fast they are.
 
 use crate::libavcodec::Libavcodec;
-use crate::material::Material;
+use crate::material::{Codeblocks, Material};
 use crate::race::{race, Contestant};
 use ffmpeg::proved::proved_parameters;
 use ffmpeg::stream::{BitDepth, COMPONENTS};
@@ -72,6 +72,33 @@ impl Planes {
             coefficients: vec![0; area],
             work: vec![0; area],
             samples: vec![0; material.samples()],
+        }
+    }
+}
+
+/// The planes of a picture: each component has its own samples, and all use the other two planes.
+pub struct PicturePlanes {
+    planes: Planes,
+    samples: Vec<Vec<i32>>,
+}
+
+impl PicturePlanes {
+    /// Planes of zeros for a picture that has a component so many times.
+    pub fn new(material: &Material, components: usize) -> PicturePlanes {
+        let planes = Planes::new(material);
+        let samples = vec![planes.samples.clone(); components];
+        PicturePlanes { planes, samples }
+    }
+
+    /// Runs a job on all components, one after the other; they were checked.
+    pub fn run(&mut self, material: &Material, job: Job) {
+        for own in &mut self.samples {
+            std::mem::swap(&mut self.planes.samples, own);
+            assert_eq!(
+                job(material, &mut self.planes),
+                0,
+                "a component that was checked"
+            );
         }
     }
 }
@@ -172,10 +199,11 @@ pub fn check(material: &Material, other_reference_jobs: bool) -> Result<(), Stri
     check_libavcodec(material, &planes.samples)
 }
 
-/// Holds libavcodec to these samples.
+/// Holds libavcodec to these samples. Where there are many codeblocks it takes no part: it refuses more of
+/// them than a level has columns or rows.
 fn check_libavcodec(material: &Material, samples: &[i32]) -> Result<(), String> {
     let p = &material.parameters;
-    if !libavcodec_agrees(p.wavelet) {
+    if !libavcodec_agrees(p.wavelet) || material.codeblocks != Codeblocks::ONE {
         return Ok(());
     }
     let shown = |sample: &i32| sample + BitDepth::Eight.offset();
@@ -229,7 +257,7 @@ pub fn measure(material: &Material, effort: Effort) -> Speeds {
 }
 
 /// Each of a decoder's jobs with planes of its own, the coefficients unpacked. A turn is a picture of so
-/// many components, one after the other: each has its own samples, and all use the other two planes.
+/// many components.
 fn job_contestants(
     material: &Material,
     jobs: [Job; 3],
@@ -238,18 +266,10 @@ fn job_contestants(
 ) -> [Contestant<'_>; 3] {
     let [unpack, ..] = jobs;
     jobs.map(|job| {
-        let mut planes = Planes::new(material);
-        unpack(material, &mut planes);
-        let mut samples = vec![planes.samples.clone(); components];
+        let mut picture = PicturePlanes::new(material, components);
+        unpack(material, &mut picture.planes);
         Contestant::new(components * material.samples(), rounds, move || {
-            for own in &mut samples {
-                std::mem::swap(&mut planes.samples, own);
-                assert_eq!(
-                    job(material, &mut planes),
-                    0,
-                    "a component that was checked"
-                );
-            }
+            picture.run(material, job)
         })
     })
 }

@@ -3,7 +3,7 @@
 //! The program `bench_job` runs the jobs on a component, each so many times. A run more, counted beside a
 //! run less, is what one call executes, whatever the program does besides.
 
-use crate::material::Material;
+use crate::material::{Codeblocks, Material};
 use crate::report::{head_cells, write_table, HEAD};
 use std::fmt::{self, Display, Formatter};
 use std::path::{Path, PathBuf};
@@ -17,7 +17,7 @@ pub const PROGRAM: &str = "bench_job";
 const VALGRIND: [&str; 2] = ["--tool=callgrind", "--callgrind-out-file=/dev/null"];
 
 /// The columns after those that name a component.
-const COLUMNS: [&str; 3] = ["unpack", "synthesise", "decode"];
+const COLUMNS: [&str; 4] = ["codeblocks", "unpack", "synthesise", "decode"];
 
 /// Instructions a sample of unpack, synthesise and decode on a component.
 pub struct Counts {
@@ -68,7 +68,8 @@ fn count_runs(
     runs: [u32; 3],
 ) -> Result<u64, String> {
     let p = &material.parameters;
-    let numbers = [p.width, p.height, p.depth, p.wavelet];
+    let Codeblocks { across, down, .. } = material.codeblocks;
+    let numbers = [p.width, p.height, p.depth, p.wavelet, across, down];
     let output = Command::new("valgrind")
         .args(VALGRIND)
         .arg(program)
@@ -92,10 +93,9 @@ impl Counts {
         for (job, more) in [[2, 0, 0], [1, 1, 0], [1, 0, 1]].into_iter().enumerate() {
             a_sample[job] = (count(more)? - base) as f64 / material.samples() as f64;
         }
-        Ok(Counts {
-            head: head_cells(material),
-            a_sample,
-        })
+        let mut head = head_cells(material);
+        head.push(material.codeblocks.to_string());
+        Ok(Counts { head, a_sample })
     }
 }
 

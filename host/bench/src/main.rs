@@ -3,8 +3,7 @@
 use bench::contest::Effort;
 use bench::instructions::{valgrind_version, CountReport, Counts, PROGRAM};
 use bench::libavcodec::Libavcodec;
-use bench::material::{Plan, COUNTED_SIZE, RATES, WAVELETS};
-use bench::tables::{checked, components, Tables};
+use bench::tables::{components, counted_components, Tables};
 use std::process::ExitCode;
 use std::time::Instant;
 
@@ -13,13 +12,13 @@ const USAGE: &str = "usage: bench [--quick]
 
 Measures unpack, synthesise and decode of the proved library on components of 1920 x
 1080 samples and of other sizes, beside the independent decoder and, where FFmpeg's
-libraries were found when this was built, libavcodec; then synthesise on large numbers,
-and calls that are refused. All are checked to give the same samples first. They run in
-turn on one thread; the processor time of the best run counts. With --quick there are
-few runs, and the figures are rough.
+libraries were found when this was built, libavcodec; then unpack and decode of one to
+many codeblocks, synthesise on large numbers, and calls that are refused. All are
+checked to give the same samples first. They run in turn on one thread; the processor
+time of the best run counts. With --quick there are few runs, and the figures are rough.
 
 With --instructions valgrind counts the instructions of each job instead, on components
-of 480 x 270 samples.
+of 480 x 270 samples, three of them with one to many codeblocks.
 
 docs/BENCHMARK.md says how to read the tables.
 
@@ -85,16 +84,16 @@ fn run(passes: Passes) -> Result<(), String> {
     Ok(())
 }
 
-/// Counts the instructions of each wavelet at each rate, and prints the table.
+/// Counts the instructions of each wavelet at each rate, and of codeblocks, and prints the table.
 fn count_instructions(valgrind: &str) -> Result<(), String> {
     let this = std::env::current_exe().map_err(|error| error.to_string())?;
     let program = this.with_file_name(PROGRAM);
     let mut rows = Vec::new();
-    for wavelet in WAVELETS {
-        for material in checked(Plan::new(COUNTED_SIZE, wavelet), &RATES, false)? {
-            eprintln!("counting: index {}", material.index);
-            rows.push(Counts::of(&material, &program)?);
-        }
+    for material in counted_components()? {
+        let wavelet = material.parameters.wavelet;
+        let (index, codeblocks) = (material.index, material.codeblocks);
+        eprintln!("counting: wavelet {wavelet}, index {index}, codeblocks {codeblocks}");
+        rows.push(Counts::of(&material, &program)?);
     }
     println!("Counted by {valgrind}, callgrind.\n");
     print!("{}", CountReport(rows));

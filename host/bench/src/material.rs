@@ -6,8 +6,9 @@ use reference::encode::{
     encode_body, picture_coefficients, quantise_plane, EncodeOptions, Rounding, SubbandOptions,
 };
 use reference::params::{sample_area, subbands};
-use reference::pieces::parameters;
+use reference::pieces::{parameters, with_codeblocks};
 use reference::Parameters;
+use std::fmt::{self, Display, Formatter};
 
 /// The seed of the picture.
 const SEED: u64 = 1;
@@ -19,6 +20,16 @@ pub struct Plan {
     pub height: u32,
     pub depth: u32,
     pub wavelet: u32,
+    pub codeblocks: Codeblocks,
+}
+
+/// The codeblocks of a subband, the same at every level.
+#[derive(Clone, Copy, Debug, PartialEq, Eq)]
+pub struct Codeblocks {
+    pub across: u32,
+    pub down: u32,
+    /// Whether a codeblock of zeros is flagged; otherwise its zeros are written out.
+    pub flag_zeros: bool,
 }
 
 /// A rate to come near to, and the quantiser index to try first.
@@ -47,8 +58,29 @@ pub const OTHER_SIZES: [(u32, u32); 5] =
 /// The other rates that are measured at the full size.
 pub const OTHER_RATES: [Rate; 3] = [rate(0.5, 22), rate(2.0, 10), rate(6.0, 0)];
 
+/// The codeblocks of the table of many codeblocks, at the full size; the first are one.
+pub const MANY_CODEBLOCKS: [Codeblocks; 7] = [
+    Codeblocks::ONE,
+    Codeblocks::written_out(4, 3),
+    Codeblocks::written_out(16, 12),
+    Codeblocks::written_out(60, 34),
+    Codeblocks::written_out(120, 68),
+    Codeblocks::written_out(255, 255),
+    Codeblocks::flagged(120, 68),
+];
+
+/// The rate that they are measured at.
+pub const MANY_CODEBLOCKS_RATE: Rate = rate(1.8, 10);
+
 /// The size whose instructions are counted.
 pub const COUNTED_SIZE: (u32, u32) = (480, 270);
+
+/// The codeblocks whose instructions are counted at the rate of many codeblocks.
+pub const COUNTED_CODEBLOCKS: [Codeblocks; 3] = [
+    Codeblocks::ONE,
+    Codeblocks::written_out(30, 17),
+    Codeblocks::written_out(64, 64),
+];
 
 /// A rate, and the index to try first.
 const fn rate(bits_a_sample: f64, first_index: u32) -> Rate {
@@ -58,14 +90,56 @@ const fn rate(bits_a_sample: f64, first_index: u32) -> Rate {
     }
 }
 
+impl Codeblocks {
+    /// One codeblock, which never has a flag.
+    pub const ONE: Codeblocks = Codeblocks::written_out(1, 1);
+
+    /// So many across and down, with all zeros written out.
+    pub const fn written_out(across: u32, down: u32) -> Codeblocks {
+        Codeblocks {
+            across,
+            down,
+            flag_zeros: false,
+        }
+    }
+
+    /// So many across and down, with codeblocks of zeros flagged.
+    pub const fn flagged(across: u32, down: u32) -> Codeblocks {
+        Codeblocks {
+            across,
+            down,
+            flag_zeros: true,
+        }
+    }
+}
+
+impl Display for Codeblocks {
+    fn fmt(&self, f: &mut Formatter) -> fmt::Result {
+        write!(f, "{} x {}", self.across, self.down)
+    }
+}
+
+impl Display for Plan {
+    fn fmt(&self, f: &mut Formatter) -> fmt::Result {
+        let Codeblocks { flag_zeros, .. } = self.codeblocks;
+        let zeros = if flag_zeros { ", zeros flagged" } else { "" };
+        write!(
+            f,
+            "{} x {}, depth {}, wavelet {}, codeblocks {}{zeros}",
+            self.width, self.height, self.depth, self.wavelet, self.codeblocks
+        )
+    }
+}
+
 impl Plan {
-    /// A picture of a size with a wavelet.
+    /// A picture of a size with a wavelet, and one codeblock for each subband.
     pub const fn new((width, height): (u32, u32), wavelet: u32) -> Plan {
         Plan {
             width,
             height,
             depth: 4,
             wavelet,
+            codeblocks: Codeblocks::ONE,
         }
     }
 }
@@ -73,7 +147,9 @@ impl Plan {
 /// An encoded component.
 pub struct Material {
     pub parameters: Parameters,
-    /// The rate that it comes near to.
+    /// The codeblocks of its subbands.
+    pub codeblocks: Codeblocks,
+    /// The rate that it comes near to with one codeblock.
     pub rate: Rate,
     /// The quantiser index of every subband.
     pub index: u32,
@@ -81,15 +157,16 @@ pub struct Material {
 }
 
 impl Material {
-    /// The components of a plan, one for each rate.
+    /// The components of a plan, one for each rate. Codeblocks do not change the index.
     pub fn of(plan: Plan, rates: &[Rate]) -> Vec<Material> {
         let p = parameters(plan.width, plan.height, plan.depth, plan.wavelet, true);
         let samples = picture::samples(plan.width, plan.height, SEED);
         let coefficients = picture_coefficients(&p, &samples);
-        rates
-            .iter()
-            .map(|rate| encode_near(&p, &coefficients, rate))
-            .collect()
+        let encode = |&rate: &Rate| {
+            let index = nearest_index(&p, &coefficients, rate);
+            encode_with(&p, &coefficients, plan.codeblocks, rate, index)
+        };
+        rates.iter().map(encode).collect()
     }
 
     /// Its width and height.
@@ -117,37 +194,52 @@ impl Material {
     }
 }
 
-/// Encodes coefficients with the index that comes nearest to a rate: the first index that is not
-/// above the rate, or the one before it.
-fn encode_near(p: &Parameters, coefficients: &[i32], rate: &Rate) -> Material {
-    let encode = |index| encode_with(p, coefficients, *rate, index);
-    let miss = |material: &Material| material.bits_a_sample() - rate.bits_a_sample;
-    let mut above = encode(rate.first_index);
-    while miss(&above) < 0.0 && above.index > 0 {
-        above = encode(above.index - 1);
+/// The index that comes nearest to a rate with one codeblock: the first index that is not above the rate,
+/// or the one before it.
+fn nearest_index(p: &Parameters, coefficients: &[i32], rate: Rate) -> u32 {
+    let miss = |index| {
+        let material = encode_with(p, coefficients, Codeblocks::ONE, rate, index);
+        material.bits_a_sample() - rate.bits_a_sample
+    };
+    let mut index = rate.first_index;
+    let mut above = miss(index);
+    while above < 0.0 && index > 0 {
+        index -= 1;
+        above = miss(index);
     }
     loop {
-        let next = encode(above.index + 1);
-        if miss(&next) <= 0.0 {
-            let nearer = miss(&next).abs() < miss(&above).abs();
-            return if nearer { next } else { above };
+        let next = miss(index + 1);
+        if next <= 0.0 {
+            let nearer = next.abs() < above.abs();
+            return if nearer { index + 1 } else { index };
         }
+        index += 1;
         above = next;
     }
 }
 
-/// Encodes coefficients with one index for every subband.
-fn encode_with(p: &Parameters, coefficients: &[i32], rate: Rate, index: u32) -> Material {
-    let indices = vec![index; subbands(p).len()];
-    let quantised = quantise_plane(p, coefficients, &indices, Rounding::Floor);
+/// Encodes coefficients in codeblocks with one index for every subband.
+fn encode_with(
+    p: &Parameters,
+    coefficients: &[i32],
+    codeblocks: Codeblocks,
+    rate: Rate,
+    index: u32,
+) -> Material {
+    let p = with_codeblocks(p, codeblocks.across, codeblocks.down);
+    let indices = vec![index; subbands(&p).len()];
+    let quantised = quantise_plane(&p, coefficients, &indices, Rounding::Floor);
     let options = SubbandOptions {
         quantiser: index.into(),
+        flag_zero_codeblocks: codeblocks.flag_zeros,
         ..SubbandOptions::default()
     };
+    let body = encode_body(&p, &quantised, &EncodeOptions::uniform(&p, options));
     Material {
-        parameters: p.clone(),
+        parameters: p,
+        codeblocks,
         rate,
         index,
-        body: encode_body(p, &quantised, &EncodeOptions::uniform(p, options)),
+        body,
     }
 }

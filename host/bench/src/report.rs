@@ -1,5 +1,6 @@
 //! The tables.
 
+use crate::codeblocks::CodeblockTimes;
 use crate::contest::{libavcodec_agrees, Speeds};
 use crate::exact::{ExactTimes, LargeAndSmall};
 use crate::material::Material;
@@ -48,8 +49,31 @@ pub struct Report {
     pub sizes: Vec<Row>,
     /// One wavelet at one size, from few bits to many.
     pub rates: Vec<Row>,
+    /// One wavelet at one size and index, from one codeblock to many.
+    pub codeblocks: Vec<CodeblockRow>,
     pub exact: Vec<ExactRow>,
     pub refusals: Vec<RefusalRow>,
+}
+
+/// Unpack and decode of a component in codeblocks, beside unpack of the same in one.
+pub struct CodeblockRow {
+    head: Vec<String>,
+    times: CodeblockTimes,
+    one: CodeblockTimes,
+}
+
+impl CodeblockRow {
+    /// The row of a component, whose times are given with those of one codeblock.
+    pub fn new(material: &Material, times: CodeblockTimes, one: CodeblockTimes) -> CodeblockRow {
+        let zeros = if material.codeblocks.flag_zeros {
+            "flagged"
+        } else {
+            "written out"
+        };
+        let mut head = head_cells(material);
+        head.extend([material.codeblocks.to_string(), zeros.to_string()]);
+        CodeblockRow { head, times, one }
+    }
 }
 
 /// Synthesise on large numbers and on small ones.
@@ -115,6 +139,15 @@ const TIMES: [&str; 3] = ["unpack", "synthesise", "decode"];
 
 /// The columns of the tables of times beside libavcodec.
 const TIMES_BESIDE: [&str; 3] = ["FFmpeg SIMD", "FFmpeg C", "decode / FFmpeg SIMD"];
+
+/// The columns of the table of many codeblocks, after those that name a component.
+const CODEBLOCKS: [&str; 5] = [
+    "codeblocks",
+    "zero codeblocks",
+    "unpack",
+    "decode",
+    "unpack / unpack of 1 x 1",
+];
 
 /// The columns of the table of large numbers.
 const EXACT: [&str; 7] = [
@@ -207,6 +240,17 @@ fn time_cells_beside(row: &Row) -> Vec<String> {
     cells
 }
 
+/// The cells of a row of many codeblocks.
+fn codeblock_cells(row: &CodeblockRow) -> Vec<String> {
+    let CodeblockTimes { unpack, decode } = row.times;
+    let figures = [
+        time_figure(unpack),
+        time_figure(decode),
+        figure(unpack / row.one.unpack),
+    ];
+    [&row.head[..], &figures].concat()
+}
+
 /// The cells of a row of large numbers.
 fn exact_cells(row: &ExactRow) -> Vec<String> {
     let [largest, largest_small] = row.largest;
@@ -285,6 +329,9 @@ impl Display for Report {
         write_components(f, title, &self.sizes, &beside, time_cells_beside)?;
         let title = "\nFrom few bits to many: nanoseconds a sample.";
         write_components(f, title, &self.rates, &beside, time_cells_beside)?;
+        let columns = [&HEAD[..], &CODEBLOCKS].concat();
+        let title = "\nMany codeblocks at every level: nanoseconds a sample.";
+        write_table(f, title, &columns, &self.codeblocks, codeblock_cells)?;
         let title = "\nSynthesise of large numbers, beside small ones: nanoseconds a sample.";
         write_table(f, title, &EXACT, &self.exact, exact_cells)?;
         let title = "\nWhat a refusal costs.";

@@ -4,23 +4,24 @@
 use kafsillun::Parameters;
 use std::{env, fs};
 
-/// The words after the body's: width, height, depth, wavelet, and how often each job runs.
-const NUMBERS: usize = 7;
+/// The words after the body's: width, height, depth, wavelet, codeblocks across and down at every level,
+/// and how often each job runs.
+const NUMBERS: usize = 9;
 
 fn main() {
     let mut words = env::args().skip(1);
     let body = fs::read(words.next().expect("the name of a body")).expect("a body");
     let numbers: Vec<u32> = words.map(|word| word.parse().expect("a number")).collect();
-    let numbers: [u32; NUMBERS] = numbers.try_into().expect("seven numbers");
-    let [width, height, depth, wavelet, unpacks, syntheses, decodes] = numbers;
+    let numbers: [u32; NUMBERS] = numbers.try_into().expect("nine numbers");
+    let [width, height, depth, wavelet, across, down, unpacks, syntheses, decodes] = numbers;
     let p = Parameters {
         width,
         height,
         depth,
         wavelet,
         intra: true,
-        codeblocks_across: [1; 5],
-        codeblocks_down: [1; 5],
+        codeblocks_across: [across; 5],
+        codeblocks_down: [down; 5],
     };
     let padded = |size: u32| (size as usize).next_multiple_of(1 << depth);
     let area = padded(width) * padded(height);

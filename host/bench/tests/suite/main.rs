@@ -1,14 +1,15 @@
 //! Tests on small pictures; no figure is tested.
 
-use bench::contest::{check, measure, Effort};
+use bench::codeblocks::{self, CodeblockTimes};
+use bench::contest::{check, measure, Effort, Planes, PROVED};
 use bench::exact::LargeAndSmall;
 use bench::instructions::{collected, valgrind_version, CountReport, Counts};
 use bench::libavcodec::Libavcodec;
-use bench::material::{Material, Plan, Rate};
+use bench::material::{Codeblocks, Material, Plan, Rate};
 use bench::picture;
 use bench::race::{race, Contestant};
 use bench::refusals::{self, calls};
-use bench::report::{ExactRow, RefusalRow, Report, Row};
+use bench::report::{CodeblockRow, ExactRow, RefusalRow, Report, Row};
 use std::cell::RefCell;
 use std::path::Path;
 
@@ -19,6 +20,7 @@ fn small(wavelet: u32) -> Plan {
         height: 48,
         depth: 2,
         wavelet,
+        codeblocks: Codeblocks::ONE,
     }
 }
 
@@ -31,6 +33,26 @@ const RATE: Rate = Rate {
 /// A small component with a wavelet.
 fn material(wavelet: u32) -> Material {
     Material::of(small(wavelet), &[RATE]).remove(0)
+}
+
+/// A small component of wavelet 1 in codeblocks.
+fn divided(codeblocks: Codeblocks) -> Material {
+    let plan = Plan {
+        codeblocks,
+        ..small(1)
+    };
+    Material::of(plan, &[RATE]).remove(0)
+}
+
+/// One codeblock, many and more than there are columns.
+fn one_to_many() -> [Material; 4] {
+    [
+        Codeblocks::ONE,
+        Codeblocks::written_out(3, 2),
+        Codeblocks::flagged(16, 12),
+        Codeblocks::written_out(40, 50),
+    ]
+    .map(divided)
 }
 
 #[test]
@@ -62,6 +84,30 @@ fn all_decoders_agree() {
     for wavelet in 0..=6 {
         assert_eq!(check(&material(wavelet), true), Ok(()), "wavelet {wavelet}");
     }
+}
+
+#[test]
+fn codeblocks_change_the_body_alone() {
+    let [unpack, ..] = PROVED;
+    let one = material(1);
+    let mut expected = Planes::new(&one);
+    unpack(&one, &mut expected);
+    for material in one_to_many() {
+        let codeblocks = material.codeblocks;
+        assert_eq!(check(&material, true), Ok(()), "{codeblocks}");
+        assert_eq!(material.index, one.index, "{codeblocks}");
+        let same_body = codeblocks == Codeblocks::ONE;
+        assert_eq!(material.body == one.body, same_body, "{codeblocks}");
+        let mut planes = Planes::new(&material);
+        unpack(&material, &mut planes);
+        assert!(planes == expected, "{codeblocks}");
+    }
+}
+
+#[test]
+fn flags_take_the_place_of_zeros() {
+    let bits = |codeblocks| divided(codeblocks).bits_a_sample();
+    assert!(bits(Codeblocks::flagged(16, 12)) < bits(Codeblocks::written_out(16, 12)));
 }
 
 #[test]
@@ -106,6 +152,16 @@ fn large_numbers_are_large_and_small_ones_small() {
         let times = both.measure(ONE_TURN);
         assert!(times.small > 0.0 && times.large > 0.0);
     }
+}
+
+#[test]
+fn one_to_many_codeblocks_are_measured() {
+    let components = one_to_many();
+    let times = codeblocks::measure(&components.each_ref(), ONE_TURN);
+    assert_eq!(times.len(), components.len());
+    assert!(times.iter().all(|time| time.unpack > 0.0));
+    assert!(times.iter().all(|time| time.decode > 0.0));
+    assert!(codeblocks::measure(&[], ONE_TURN).is_empty());
 }
 
 #[test]
@@ -157,19 +213,27 @@ fn the_report_has_a_row_for_each_component() {
     let row = Row::new(&material, speeds);
     let both = LargeAndSmall::of(&material).unwrap();
     let calls = calls(&material).unwrap();
+    let times = |unpack, decode| CodeblockTimes { unpack, decode };
+    let flagged = divided(Codeblocks::flagged(16, 12));
     let report = Report {
         wavelets: vec![row.clone()],
         sizes: vec![row.clone(), row],
         rates: vec![],
+        codeblocks: vec![
+            CodeblockRow::new(&material, times(2.0, 4.0), times(2.0, 4.0)),
+            CodeblockRow::new(&flagged, times(5.0, 12.0), times(2.0, 4.0)),
+        ],
         exact: vec![ExactRow::new(&both, both.measure(ONE_TURN))],
         refusals: vec![RefusalRow::new(&calls[0], 0.025)],
     };
     let text = report.to_string();
-    assert_eq!(text.matches("| 64 x 48 | 2 | 1 |").count(), 3 + 2);
+    assert_eq!(text.matches("| 64 x 48 | 2 | 1 |").count(), 3 + 2 + 2);
     assert_eq!(
         text.matches("| not installed | not installed |").count(),
         1 + 2
     );
+    assert!(text.contains("| 1 x 1 | written out | 2.00 | 4.00 | 1.00 |\n"));
+    assert!(text.contains("| 16 x 12 | flagged | 5.00 | 12.0 | 2.50 |\n"));
     assert!(text.ends_with("\n| decode | 1 | before any work | 0.025 |\n"));
     // Every row has a cell for each column.
     let cells = |line: &str| line.matches(" |").count();
@@ -194,13 +258,15 @@ fn instructions_of_decode_are_those_of_its_parts() {
     if valgrind_version().is_none() {
         return;
     }
-    let material = material(1);
     let program = Path::new(env!("CARGO_BIN_EXE_bench_job"));
-    let counts = Counts::of(&material, program).unwrap();
-    let [unpack, synthesise, decode] = counts.a_sample;
-    assert!(unpack > 1.0 && synthesise > 1.0);
-    assert!((0.9..1.1).contains(&(decode / (unpack + synthesise))));
-    let text = CountReport(vec![counts]).to_string();
-    assert!(text.contains("| 64 x 48 | 2 | 1 |"));
-    assert!(Counts::of(&material, Path::new("no-such-program")).is_err());
+    for material in [material(1), divided(Codeblocks::written_out(3, 2))] {
+        let counts = Counts::of(&material, program).unwrap();
+        let [unpack, synthesise, decode] = counts.a_sample;
+        assert!(unpack > 1.0 && synthesise > 1.0);
+        assert!((0.9..1.1).contains(&(decode / (unpack + synthesise))));
+        let text = CountReport(vec![counts]).to_string();
+        assert!(text.contains("| 64 x 48 | 2 | 1 |"));
+        assert!(text.contains(&format!(" | {} | ", material.codeblocks)));
+        assert!(Counts::of(&material, Path::new("no-such-program")).is_err());
+    }
 }
