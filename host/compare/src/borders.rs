@@ -44,7 +44,7 @@ fn random_run(random: &mut Random) -> usize {
 
 /// A number whose signed code takes so many bits: 4, 6 and on to 64. Of those with 64 bits, one that
 /// fits 32 bits where the quantiser index is 0.
-fn number_of_code(random: &mut Random, bits: i64) -> i64 {
+pub fn number_of_code(random: &mut Random, bits: i64) -> i64 {
     if bits == LONGEST_CODE {
         return random.pick(&[i32::MAX, -i32::MAX, i32::MIN]).into();
     }
@@ -55,7 +55,7 @@ fn number_of_code(random: &mut Random, bits: i64) -> i64 {
 }
 
 /// Fills a subband with runs of zeros and numbers between them.
-fn put_runs(
+pub fn put_runs(
     random: &mut Random,
     places: &[usize],
     quantised: &mut [i64],
@@ -75,14 +75,24 @@ fn body_of_runs(
     index: fn(&mut Random) -> u32,
     number: fn(&mut Random, u32) -> i64,
 ) -> Body {
+    body_of_bands(random, p, index, |random, band, index, quantised| {
+        let places = reading_order(p, band);
+        put_runs(random, &places, quantised, |random| number(random, index));
+    })
+}
+
+/// A body whose subbands have a quantiser index of a kind, filled by a function of the subband and it.
+pub fn body_of_bands(
+    random: &mut Random,
+    p: &Parameters,
+    index: fn(&mut Random) -> u32,
+    fill: impl Fn(&mut Random, &Subband, u32, &mut [i64]),
+) -> Body {
     let mut quantised = vec![0; padded_area(p)];
     let mut options = Vec::new();
     for band in subbands(p) {
         let index = index(random);
-        let places = reading_order(p, &band);
-        put_runs(random, &places, &mut quantised, |random| {
-            number(random, index)
-        });
+        fill(random, &band, index, &mut quantised);
         let mut option = SubbandOptions {
             quantiser: index.into(),
             ..pieces::random_options(random)
@@ -127,15 +137,18 @@ fn largest_that_fits(index: u32) -> i64 {
     ((4 << 31) - 3 - quantiser_offset(index)) / quantiser_factor(index)
 }
 
+/// A number whose value fits 32 bits with an index, often just so.
+pub fn number_that_fits(random: &mut Random, index: u32) -> i64 {
+    let most = largest_that_fits(index);
+    let any = random.range(1, most);
+    random.pick(&[-1, 1]) * random.pick(&[1, most, any])
+}
+
 /// A body of small numbers with quantiser indices so large that they just fit 32 bits; or all but one
 /// of them do.
 pub fn large_index_body(random: &mut Random, p: &Parameters) -> Body {
     let index = |random: &mut Random| random.range(104, 115) as u32;
-    let mut body = body_of_runs(random, p, index, |random, index| {
-        let most = largest_that_fits(index);
-        let any = random.range(1, most);
-        random.pick(&[-1, 1]) * random.pick(&[1, most, any])
-    });
+    let mut body = body_of_runs(random, p, index, number_that_fits);
     if random.range(0, 2) == 0 {
         let bands = subbands(p);
         let k = random.range(0, bands.len() as i64 - 1) as usize;
@@ -169,19 +182,30 @@ pub fn ends_bytes(random: &mut Random, p: &Parameters) -> Vec<u8> {
         .collect()
 }
 
-/// The bytes of a subband with more or fewer bytes of data, and a header that says so.
-fn with_other_end(random: &mut Random, part: &[u8]) -> Vec<u8> {
+/// The bytes of a subband with up to 10 bytes of data more or fewer, and a header that says so.
+pub fn with_other_end(random: &mut Random, part: &[u8]) -> Vec<u8> {
+    with_other_data(part, |data| {
+        if random.flag() {
+            data.extend(random_bytes(random, 10));
+        } else {
+            let fewer = data.len().saturating_sub(random.range(0, 10) as usize);
+            // A length of 0 would skip the subband.
+            data.truncate(fewer.max(1));
+        }
+    })
+}
+
+/// The bytes of a subband with its data changed, and a header that says so. One that is skipped stays
+/// so.
+pub fn with_other_data(part: &[u8], change: impl FnOnce(&mut Vec<u8>)) -> Vec<u8> {
     let mut header = BitReader::new(part, PastEnd::Missing);
     let mut number = || header.number().expect("a body in order");
-    let (_length, index) = (number(), number());
-    let mut data = part[header.align()..].to_vec();
-    if random.flag() {
-        data.extend(random_bytes(random, 10));
-    } else {
-        let fewer = data.len().saturating_sub(random.range(0, 10) as usize);
-        // A length of 0 would skip the subband.
-        data.truncate(fewer.max(1));
+    if number() == 0 {
+        return part.to_vec();
     }
+    let index = number();
+    let mut data = part[header.align()..].to_vec();
+    change(&mut data);
     subband_bytes(index, &data)
 }
 

@@ -5,8 +5,11 @@ use crate::bodies::{
     random_data,
 };
 use crate::borders::{codes_body, ends_bytes, large_index_body, runs_body};
-use crate::parameters::{put_out_of_range, random_parameters, row_parameters};
+use crate::parameters::{
+    put_out_of_range, random_parameters, rectangle_parameters, row_parameters,
+};
 use crate::planes::{extreme_at_a_level, plane_of_kind, random_coefficients, PlaneKind};
+use crate::rectangles::rectangles_bytes;
 use reference::params::{padded_area, sample_area};
 use reference::random::Random;
 use reference::Parameters;
@@ -39,6 +42,8 @@ pub enum Kind {
     Ends,
     /// Small numbers with quantiser indices so large that they just fit 32 bits, or just do not.
     LargeIndex,
+    /// Codeblocks whose rows are read many at once or just are not, and zeros about their ends.
+    Rectangles,
     /// Headers in order, data at random.
     Data,
     /// Bytes at random.
@@ -50,19 +55,20 @@ pub enum Kind {
 }
 
 /// How many of a hundred cases are of a kind.
-const SHARES: [(Kind, u32); 16] = [
-    (Kind::Valid, 12),
+const SHARES: [(Kind, u32); 17] = [
+    (Kind::Valid, 9),
     (Kind::Picture, 4),
-    (Kind::Cut, 7),
-    (Kind::Flipped, 8),
+    (Kind::Cut, 6),
+    (Kind::Flipped, 7),
     (Kind::Length, 5),
-    (Kind::Fault, 18),
+    (Kind::Fault, 15),
     (Kind::Extreme, 6),
     (Kind::Sized, 5),
     (Kind::Runs, 5),
     (Kind::Codes, 4),
     (Kind::Ends, 4),
     (Kind::LargeIndex, 3),
+    (Kind::Rectangles, 8),
     (Kind::Data, 4),
     (Kind::Noise, 3),
     (Kind::Parameters, 7),
@@ -96,6 +102,7 @@ impl Case {
         };
         let p = match kind {
             Kind::Runs | Kind::Codes | Kind::Ends | Kind::LargeIndex => row_parameters(&mut random),
+            Kind::Rectangles => rectangle_parameters(&mut random),
             _ => random_parameters(&mut random, least_depth),
         };
         let (plane_kind, coefficients) = random_coefficients(&mut random, &p);
@@ -214,6 +221,7 @@ fn random_bytes(random: &mut Random, kind: Kind, p: &Parameters) -> Vec<u8> {
         Kind::Codes => codes_body(random, p).bytes(p),
         Kind::Ends => ends_bytes(random, p),
         Kind::LargeIndex => large_index_body(random, p).bytes(p),
+        Kind::Rectangles => rectangles_bytes(random, p),
         Kind::Data => random_data(random, p),
         Kind::Noise => noise(random),
     }

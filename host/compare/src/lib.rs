@@ -13,6 +13,7 @@ mod check;
 mod guarded;
 mod parameters;
 mod planes;
+mod rectangles;
 pub mod round_trip;
 mod statistics;
 pub mod work;

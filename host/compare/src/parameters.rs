@@ -1,7 +1,7 @@
 //! Parameters at random, in range and out of range.
 
-use reference::params::subband;
 use reference::params::Orientation::{HL, LL};
+use reference::params::{padded_area, subband, subbands};
 use reference::pieces;
 use reference::random::Random;
 use reference::Parameters;
@@ -56,6 +56,78 @@ pub fn row_parameters(random: &mut Random) -> Parameters {
         p.codeblocks_down[level] = random.pick(&[1, 1, 1, 2]);
     }
     p
+}
+
+/// Parameters whose codeblocks have sizes near those at which a reader may take their rows together,
+/// or counts near the subband's sizes and above.
+pub fn rectangle_parameters(random: &mut Random) -> Parameters {
+    const WIDTHS: [u32; 10] = [1, 2, 15, 16, 17, 62, 63, 64, 65, 66];
+    const HEIGHTS: [u32; 13] = [1, 2, 3, 14, 15, 16, 17, 30, 31, 32, 33, 34, 48];
+    if random.range(0, 2) == 0 {
+        return two_codeblocks(random);
+    }
+    let depth = random.pick(&[0, 0, 0, 1]);
+    let most = random.pick(&[600, 1500, 2800]);
+    loop {
+        let (width, across) = random_split(random, &WIDTHS);
+        let (height, down) = random_split(random, &HEIGHTS);
+        let mut p = rectangle(random, width << depth, height << depth, depth);
+        p.codeblocks_across[..2].copy_from_slice(&across);
+        p.codeblocks_down[..2].copy_from_slice(&down);
+        if padded_area(&p) <= most && codeblocks(&p) <= most {
+            return p;
+        }
+    }
+}
+
+/// Parameters of such a picture with some wavelet.
+fn rectangle(random: &mut Random, width: u32, height: u32, depth: u32) -> Parameters {
+    let wavelet = random.range(0, 6) as u32;
+    // Prediction takes large values out of 32 bits.
+    let intra = random.range(0, 3) == 0;
+    pieces::parameters(width, height, depth, wavelet, intra)
+}
+
+/// Parameters of two codeblocks side by side, with about the longest rows that are read together, or any
+/// shorter ones, and about as many rows as are read together once or twice.
+fn two_codeblocks(random: &mut Random) -> Parameters {
+    let (border, any) = (random.range(62, 66), random.range(1, 66));
+    let width = 2 * random.pick(&[border, any, any]) + random.range(0, 1);
+    let height = random.pick(&[15, 16, 17, 31, 32, 33]);
+    let mut p = rectangle(random, width as u32, height, 0);
+    p.codeblocks_across[0] = 2;
+    p
+}
+
+/// A subband's width or height, and for levels 0 and 1 how many codeblocks share it. Those of a level
+/// have one of these sizes, often with one more in some; or there are about as many as the size has
+/// room for, or far more.
+fn random_split(random: &mut Random, sizes: &[u32]) -> (u32, [u32; 2]) {
+    let size = match random.range(0, 2) {
+        0 => random.range(1, 70) as u32,
+        _ => random.pick(sizes),
+    };
+    if random.range(0, 3) > 0 {
+        let count = random.pick(&[1, 1, 2, 2, 3]);
+        let whole = size * count + random.range(0, i64::from(count) - 1) as u32;
+        return (whole, [count, random.pick(&[1, count, count])]);
+    }
+    let counts = [(); 2].map(|()| {
+        let about = random.pick(&[1, 1, 2, 3]) * i64::from(size) + random.range(-1, 1);
+        random
+            .pick(&[about, about, about, about, 1, 255])
+            .clamp(1, 255) as u32
+    });
+    (size, counts)
+}
+
+/// How many codeblocks all subbands have.
+fn codeblocks(p: &Parameters) -> usize {
+    let count = |level| p.codeblocks_across[level] as usize * p.codeblocks_down[level] as usize;
+    subbands(p)
+        .iter()
+        .map(|band| count(band.level as usize))
+        .sum()
 }
 
 /// A width or height from 1 to 70.

@@ -1,103 +1,8 @@
 //! The cases meet the borders of a fast reader and of a transform in 32 bits, again and again.
 
-use compare::{check, reference, safe_size, Case, Kind, PlaneKind};
-use reference::codes::{BitReader, PastEnd};
-use reference::params::{subbands, Parameters, Subband};
-use reference::unpack::codeblock_start;
+use crate::codes::{cases, codes, first_cases, unpack_status};
+use compare::{safe_size, Kind, PlaneKind};
 use std::collections::{BTreeMap, BTreeSet};
-use std::sync::OnceLock;
-
-/// A number's code in the data of a subband.
-struct Code {
-    number: i64,
-    /// Its first bit, its bits, and how many bits the data has.
-    at: usize,
-    bits: usize,
-    end: usize,
-    /// How many values its row of the codeblock has left, this one included.
-    room: usize,
-}
-
-/// How many bits a signed number's code has.
-fn code_bits(number: i64) -> usize {
-    let data_bits = (number.unsigned_abs() + 1).ilog2() as usize;
-    2 * data_bits + 1 + usize::from(number != 0)
-}
-
-/// The codes of a subband's data, up to the first that begins past the data's end.
-fn codes_of_data(p: &Parameters, band: &Subband, data: &[u8]) -> Vec<Code> {
-    let across = p.codeblocks_across[band.level as usize] as usize;
-    let down = p.codeblocks_down[band.level as usize] as usize;
-    let span =
-        |size, k, count| codeblock_start(size, k, count)..codeblock_start(size, k + 1, count);
-    let mut reader = BitReader::new(data, PastEnd::One);
-    let end = 8 * data.len();
-    let mut at = 0;
-    let mut codes = Vec::new();
-    for block in 0..across * down {
-        if across * down > 1 {
-            at += 1;
-            if reader.bit() == Ok(1) {
-                continue;
-            }
-        }
-        for _ in span(band.height, block / across, down) {
-            let columns = span(band.width, block % across, across);
-            for x in columns.clone() {
-                let number = reader.signed_number().expect("codes in order");
-                if at >= end {
-                    return codes;
-                }
-                let (bits, room) = (code_bits(number), columns.end - x);
-                codes.push(Code {
-                    number,
-                    at,
-                    bits,
-                    end,
-                    room,
-                });
-                at += bits;
-            }
-        }
-    }
-    codes
-}
-
-/// The codes of each subband of a body in order, with the quantiser index.
-fn codes(p: &Parameters, bytes: &[u8]) -> Vec<(u64, Vec<Code>)> {
-    let mut start = 0;
-    let mut list = Vec::new();
-    for band in subbands(p) {
-        let mut header = BitReader::new(&bytes[start..], PastEnd::Missing);
-        let length = header.number().unwrap() as usize;
-        if length == 0 {
-            start += header.align();
-            continue;
-        }
-        let index = header.number().unwrap();
-        start += header.align();
-        let data = &bytes[start..start + length];
-        list.push((index, codes_of_data(p, &band, data)));
-        start += length;
-    }
-    list
-}
-
-/// The first cases, made once for all tests.
-fn first_cases() -> &'static [Case] {
-    static CASES: OnceLock<Vec<Case>> = OnceLock::new();
-    CASES.get_or_init(|| (1..=24_000).map(Case::from_seed).collect())
-}
-
-/// Those of a kind.
-fn cases(kind: Kind) -> impl Iterator<Item = &'static Case> {
-    first_cases().iter().filter(move |case| case.kind == kind)
-}
-
-/// What unpack answers.
-fn unpack_status(case: &Case) -> u32 {
-    check(case, reference).unwrap()[0].status
-}
 
 #[test]
 fn runs_of_zeros_cross_the_ends_of_rows() {
@@ -110,7 +15,7 @@ fn runs_of_zeros_cross_the_ends_of_rows() {
             for code in codes {
                 if code.number == 0 {
                     if run == 0 {
-                        room = code.room;
+                        room = code.row_left();
                     }
                     run += 1;
                     if run == room + 1 {

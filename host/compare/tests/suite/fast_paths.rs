@@ -10,7 +10,7 @@ use reference::unpack::{codeblock_start, dequantise, prediction};
 use reference::{Answer, Parameters};
 
 /// No fault.
-const NONE: u8 = 0;
+pub const NONE: u8 = 0;
 /// A run of zeros goes on past the end of its row.
 const ROW_END: u8 = 1;
 /// Bits past the data's end are 0 in a window.
@@ -23,14 +23,14 @@ const RANGE: u8 = 4;
 const BOUND: u8 = 5;
 
 /// The bits of a subband's data.
-struct Bits<'a> {
-    data: &'a [u8],
-    at: usize,
+pub struct Bits<'a> {
+    pub data: &'a [u8],
+    pub at: usize,
 }
 
 impl Bits<'_> {
     /// A bit, or this one past the end.
-    fn bit(&self, at: usize, past_end: u8) -> u8 {
+    pub fn bit(&self, at: usize, past_end: u8) -> u8 {
         let byte = self.data.get(at / 8);
         byte.map_or(past_end, |byte| byte >> (7 - at % 8) & 1)
     }
@@ -42,13 +42,13 @@ impl Bits<'_> {
     }
 
     /// Takes a bit.
-    fn take(&mut self) -> i64 {
+    pub fn take(&mut self) -> i64 {
         self.at += 1;
         self.bit(self.at - 1, 1).into()
     }
 
     /// Takes a signed number, bit by bit.
-    fn number(&mut self, fault: u8) -> Result<i64, u32> {
+    pub fn number(&mut self, fault: u8) -> Result<i64, u32> {
         let most = if fault == LONG_CODE { 30 } else { 31 };
         let (mut v, mut data_bits) = (1, 0);
         while self.take() == 0 {
@@ -129,6 +129,9 @@ fn read_band(
     Ok(())
 }
 
+/// A reader of a subband's codeblocks: from its data, with an index, into a plane, with a fault.
+pub type ReadBand = fn(&Parameters, &Subband, u32, &[u8], &mut [i32], u8) -> Result<(), u32>;
+
 /// Reads a subband whose bytes start at a place, and predicts it; answers where it ends.
 fn unpack_band(
     p: &Parameters,
@@ -136,7 +139,7 @@ fn unpack_band(
     bytes: &[u8],
     start: usize,
     plane: &mut [i32],
-    fault: u8,
+    read: impl FnOnce(u32, &[u8], &mut [i32]) -> Result<(), u32>,
 ) -> Result<usize, u32> {
     let mut header = BitReader::new(&bytes[start..], PastEnd::Missing);
     let length = header.number()? as usize;
@@ -147,7 +150,7 @@ fn unpack_band(
     }
     let data = bytes.get(from..from + length).ok_or(6u32)?;
     if length > 0 {
-        read_band(p, band, index as u32, data, plane, fault)?;
+        read(index as u32, data, plane)?;
     }
     if p.intra && band.level == 0 {
         for y in 0..band.height {
@@ -163,11 +166,19 @@ fn unpack_band(
 }
 
 /// Unpacks, for parameters and a plane that pass the checks.
-fn unpack(p: &Parameters, bytes: &[u8], plane: &mut [i32], fault: u8) -> Answer {
+fn unpack(
+    p: &Parameters,
+    bytes: &[u8],
+    plane: &mut [i32],
+    read_band: ReadBand,
+    fault: u8,
+) -> Answer {
     plane.fill(0);
     let mut start = 0;
     for (k, band) in subbands(p).iter().enumerate() {
-        match unpack_band(p, band, bytes, start, plane, fault) {
+        let read =
+            |index, data: &[u8], plane: &mut [i32]| read_band(p, band, index, data, plane, fault);
+        match unpack_band(p, band, bytes, start, plane, read) {
             Ok(end) => start = end,
             Err(status) => {
                 plane.fill(0);
@@ -274,6 +285,14 @@ fn synthesise(p: &Parameters, lent: Lent, fault: u8) -> Answer {
 
 /// The decoder with a fault. Decode, and what the first checks refuse, are the reference's.
 fn fast<const FAULT: u8>(p: &Parameters, job: Job, lent: Lent) -> Answer {
+    match job {
+        Job::Synthesise if !refused_at_once(p, job, &lent) => synthesise(p, lent, FAULT),
+        _ => fast_unpack(p, job, lent, read_band, FAULT),
+    }
+}
+
+/// Whether the first checks refuse a job.
+fn refused_at_once(p: &Parameters, job: Job, lent: &Lent) -> bool {
     let mut planes = (
         lent.coefficients.to_vec(),
         lent.work.to_vec(),
@@ -285,17 +304,21 @@ fn fast<const FAULT: u8>(p: &Parameters, job: Job, lent: Lent) -> Answer {
         work: &mut planes.1,
         samples: &mut planes.2,
     };
-    let answer = reference(p, job, trial);
-    match job {
-        _ if (1..=5).contains(&answer.status) => answer,
-        Job::Unpack => unpack(p, lent.bytes, lent.coefficients, FAULT),
-        Job::Synthesise => synthesise(p, lent, FAULT),
-        Job::Decode => reference(p, job, lent),
+    (1..=5).contains(&reference(p, job, trial).status)
+}
+
+/// A decoder whose unpack reads subbands so. The other jobs, and what the first checks refuse, are the
+/// reference's.
+pub fn fast_unpack(p: &Parameters, job: Job, lent: Lent, read_band: ReadBand, fault: u8) -> Answer {
+    if job == Job::Unpack && !refused_at_once(p, job, &lent) {
+        unpack(p, lent.bytes, lent.coefficients, read_band, fault)
+    } else {
+        reference(p, job, lent)
     }
 }
 
 /// How many of the first cases tell a decoder from the reference.
-fn found(decoder: Decoder, cases: u64) -> usize {
+pub fn found(decoder: Decoder, cases: u64) -> usize {
     (1..=cases)
         .filter(|&seed| check(&Case::from_seed(seed), decoder).is_err())
         .count()

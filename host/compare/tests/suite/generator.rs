@@ -95,5 +95,5 @@ fn every_kind_occurs_and_can_be_repeated() {
             answers.map(|answer| format!("status {} place {}", answer.status, answer.place));
         assert_eq!(statuses, expected);
     }
-    assert_eq!(kinds.len(), 16);
+    assert_eq!(kinds.len(), 17);
 }

@@ -2,9 +2,12 @@
 
 mod agreement;
 mod borders;
+mod codes;
 mod command;
 mod fast_paths;
+mod fast_rectangles;
 mod fences;
 mod generator;
+mod rectangles;
 mod threads;
 mod wrong_decoders;

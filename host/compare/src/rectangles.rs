@@ -1,0 +1,124 @@
+//! Bodies for the borders of a reader that takes the values of many short rows as one run: rows of up
+//! to 64 values, up to 16 of them at a time. So numbers stand at the ends of rows, zeros end about the
+//! end of a run, go on past it or fill it, and data ends inside them.
+
+use crate::borders::{
+    body_of_bands, number_of_code, number_that_fits, put_runs, with_other_data, with_other_end,
+};
+use reference::params::{padded_width, Parameters, Subband};
+use reference::random::Random;
+use reference::unpack::codeblock_start;
+
+/// The widest rows that are read many at once, and how many of them.
+const SHORT_ROW: usize = 64;
+const ROWS_AT_ONCE: usize = 16;
+
+/// From this quantiser index on, numbers are chosen so that they fit 32 bits.
+const LARGE_INDEX: u32 = 104;
+
+/// The rows that are read as one run, each the places of its values in the coefficient plane.
+type Run = Vec<Vec<usize>>;
+
+/// The runs of a subband's values, in the order in which they are read.
+fn runs(p: &Parameters, band: &Subband) -> Vec<Run> {
+    let across = p.codeblocks_across[band.level as usize] as usize;
+    let down = p.codeblocks_down[band.level as usize] as usize;
+    let span =
+        |size, k, count| codeblock_start(size, k, count)..codeblock_start(size, k + 1, count);
+    let mut list = Vec::new();
+    for block in 0..across * down {
+        let columns = span(band.width, block % across, across);
+        let rows: Run = span(band.height, block / across, down)
+            .map(|y| (band.top + y) * padded_width(p) + band.left)
+            .map(|start| (start + columns.start..start + columns.end).collect())
+            .collect();
+        let at_once = if columns.len() > SHORT_ROW {
+            1
+        } else {
+            ROWS_AT_ONCE
+        };
+        if !columns.is_empty() {
+            list.extend(rows.chunks(at_once).map(<[Vec<usize>]>::to_vec));
+        }
+    }
+    list
+}
+
+/// A short code's number, or a longer one now and then; with a large index one that fits.
+fn random_number(random: &mut Random, index: u32) -> i64 {
+    if index >= LARGE_INDEX {
+        return number_that_fits(random, index);
+    }
+    let bits = random.pick(&[4, 4, 4, 6, 6, 8, 10, 12]);
+    number_of_code(random, bits)
+}
+
+/// Puts numbers at the ends of rows alone.
+fn put_row_ends(random: &mut Random, run: &Run, index: u32, quantised: &mut [i64]) {
+    for row in run {
+        for place in [row[0], row[row.len() - 1]] {
+            if random.range(0, 3) > 0 {
+                quantised[place] = random_number(random, index);
+            }
+        }
+    }
+}
+
+/// How many zeros stand between a run's last number and its end.
+fn random_tail(random: &mut Random) -> usize {
+    let (near, any) = (random.range(14, 18), random.range(0, 24));
+    random.pick(&[0, near, any, any]) as usize
+}
+
+/// Puts numbers with runs of zeros between them up to one near the end; none where that has no place.
+fn put_numbers(random: &mut Random, run: &Run, index: u32, quantised: &mut [i64]) {
+    let places = run.concat();
+    let Some(last) = places.len().checked_sub(1 + random_tail(random)) else {
+        return;
+    };
+    put_runs(random, &places[..last], quantised, |random| {
+        random_number(random, index)
+    });
+    quantised[places[last]] = random_number(random, index);
+}
+
+/// Puts a number at every place.
+fn put_everywhere(random: &mut Random, run: &Run, index: u32, quantised: &mut [i64]) {
+    for &place in run.iter().flatten() {
+        quantised[place] = random_number(random, index);
+    }
+}
+
+/// Fills the runs of a subband, or leaves some of them zero.
+fn fill(random: &mut Random, p: &Parameters, band: &Subband, index: u32, quantised: &mut [i64]) {
+    for run in runs(p, band) {
+        match random.range(0, 15) {
+            0..=5 => put_row_ends(random, &run, index, quantised),
+            6..=12 => put_numbers(random, &run, index, quantised),
+            13 => put_everywhere(random, &run, index, quantised),
+            _ => (),
+        }
+    }
+}
+
+/// The bytes of a body of such runs. The data of some subbands ends anywhere, or up to 10 bytes before or
+/// behind its last code.
+pub fn rectangles_bytes(random: &mut Random, p: &Parameters) -> Vec<u8> {
+    let index = |random: &mut Random| {
+        let any = random.range(0, 40) as u32;
+        random.pick(&[any, any, any, any, any, any, any, LARGE_INDEX + any % 12])
+    };
+    let body = body_of_bands(random, p, index, |random, band, index, quantised| {
+        fill(random, p, band, index, quantised);
+    });
+    let parts = body.subbands(p);
+    let ended = parts.iter().flat_map(|part| match random.range(0, 3) {
+        0 => with_other_end(random, part),
+        1 => with_other_data(part, |data| {
+            // A length of 0 would skip the subband.
+            data.truncate(random.range(1, data.len() as i64) as usize);
+        }),
+        _ => part.clone(),
+    });
+    ended.collect()
+}

@@ -1,0 +1,230 @@
+//! A reader that takes many short rows as one run and looks codes up eight bits at a time, in plain
+//! Rust: without a fault it is like the reference; with a fault at a border it is found out, and by many
+//! cases.
+
+use crate::codes::cases;
+use crate::fast_paths::{fast_unpack, found, Bits, NONE};
+use compare::{check, Decoder, Job, Kind, Lent};
+use reference::params::{padded_width, Subband};
+use reference::unpack::{codeblock_start, dequantise};
+use reference::{Answer, Parameters};
+
+/// The row of a value is found with a reciprocal that is not rounded up.
+const RECIPROCAL: u8 = 1;
+/// The reciprocal has 12 bits.
+const COARSE: u8 = 2;
+/// Up to 32 rows are one run, too many for the reciprocal.
+const MANY_ROWS: u8 = 3;
+/// Sixteen ones are zeros where 15 values are left.
+const SIXTEEN: u8 = 4;
+/// Zeros that pass a run's end are taken from the data all the same.
+const CUT: u8 = 5;
+/// A window is looked up eight times.
+const LOOKUPS: u8 = 6;
+/// The last bits of the data are looked up too.
+const LAST_BITS: u8 = 7;
+/// An empty codeblock has no flag.
+const EMPTY: u8 = 8;
+/// The codeblock behind one that is skipped starts where that one does.
+const SKIPPED: u8 = 9;
+
+/// The bits of a window.
+const WINDOW: usize = 56;
+
+/// Where a run's values go.
+struct Layout {
+    start: usize,
+    count: usize,
+    /// 2^16 over the width, rounded up; 0 where the run is one row.
+    reciprocal: usize,
+    gap: usize,
+}
+
+impl Layout {
+    /// The entry that value i goes to.
+    fn entry(&self, i: usize) -> usize {
+        self.start + i + i * self.reciprocal / 65536 * self.gap
+    }
+}
+
+/// What the first eight bits of a window are: some zeros, perhaps a number behind them, and their bits.
+fn lookup(window: u64) -> (usize, Option<i64>, usize) {
+    let byte = (window >> 56) as u8;
+    let zeros = byte.leading_ones() as usize;
+    let data = [byte];
+    let mut bits = Bits {
+        data: &data,
+        at: zeros,
+    };
+    // Ones past the byte end any code.
+    match bits.number(NONE) {
+        Ok(number) if zeros < 8 && bits.at <= 8 => (zeros, Some(number), bits.at),
+        _ => (zeros, None, zeros),
+    }
+}
+
+/// The next bits at the top of a number, zeros behind them and past the data's end.
+fn window(bits: &Bits) -> u64 {
+    let bit = |k| u64::from(bits.bit(bits.at + k, 0));
+    (0..WINDOW).fold(0, |w, k| w << 1 | bit(k)) << (64 - WINDOW)
+}
+
+/// Reads values by the next bits: how many.
+fn read_window(
+    bits: &mut Bits,
+    layout: &Layout,
+    from: usize,
+    fault: u8,
+    mut store: impl FnMut(usize, i64) -> Result<(), u32>,
+) -> Result<usize, u32> {
+    let mut w = window(bits);
+    let least = if fault == SIXTEEN { 15 } else { 16 };
+    if layout.count - from >= least && w >> 48 == 0xFFFF {
+        bits.at += 16;
+        return Ok(16);
+    }
+    let mut i = from;
+    for _ in 0..if fault == LOOKUPS { 8 } else { 7 } {
+        let (zeros, number, taken) = lookup(w);
+        if i + zeros >= layout.count {
+            let cut = layout.count - i;
+            bits.at += if fault == CUT { zeros } else { cut };
+            return Ok(layout.count - from);
+        }
+        if taken == 0 {
+            break;
+        }
+        i += zeros;
+        if let Some(number) = number {
+            store(i, number)?;
+            i += 1;
+        }
+        bits.at += taken;
+        w <<= taken;
+    }
+    Ok(i - from)
+}
+
+/// Reads a run.
+fn read_run(
+    bits: &mut Bits,
+    layout: &Layout,
+    index: u32,
+    plane: &mut [i32],
+    fault: u8,
+) -> Result<(), u32> {
+    let mut store = |i, number| {
+        let value = i32::try_from(dequantise(number, index)).map_err(|_| 9u32)?;
+        // A fault may lead out of the plane.
+        if let Some(entry) = plane.get_mut(layout.entry(i)) {
+            *entry = value;
+        }
+        Ok(())
+    };
+    let needed = if fault == LAST_BITS { 8 } else { WINDOW };
+    let mut i = 0;
+    while i < layout.count {
+        let mut count = 0;
+        if bits.at + needed <= 8 * bits.data.len() {
+            count = read_window(bits, layout, i, fault, &mut store)?;
+        }
+        if count == 0 {
+            store(i, bits.number(NONE)?)?;
+            count = 1;
+        }
+        i += count;
+    }
+    Ok(())
+}
+
+/// The runs of a rectangle that starts at an entry of a plane with rows of a width.
+fn layouts(
+    start: usize,
+    stride: usize,
+    width: usize,
+    height: usize,
+    fault: u8,
+) -> impl Iterator<Item = Layout> {
+    let many = width <= 64 && height > 1;
+    let reciprocal = match fault {
+        _ if !many || width == 0 => 0,
+        RECIPROCAL => 65536 / width,
+        COARSE => 16 * (4096 / width + 1),
+        _ => 65536 / width + 1,
+    };
+    let most = match fault {
+        _ if !many => 1,
+        MANY_ROWS => 32,
+        _ => 16,
+    };
+    (0..height).step_by(most).map(move |row| Layout {
+        start: start + row * stride,
+        count: most.min(height - row) * width,
+        reciprocal,
+        gap: stride - width,
+    })
+}
+
+/// Reads the codeblocks of a subband.
+fn read_band(
+    p: &Parameters,
+    band: &Subband,
+    index: u32,
+    data: &[u8],
+    plane: &mut [i32],
+    fault: u8,
+) -> Result<(), u32> {
+    let across = p.codeblocks_across[band.level as usize] as usize;
+    let down = p.codeblocks_down[band.level as usize] as usize;
+    let stride = padded_width(p);
+    let mut bits = Bits { data, at: 0 };
+    for block_y in 0..down {
+        let top = codeblock_start(band.height, block_y, down);
+        let height = codeblock_start(band.height, block_y + 1, down) - top;
+        let mut start = (band.top + top) * stride + band.left;
+        for block_x in 0..across {
+            let left = codeblock_start(band.width, block_x, across);
+            let width = codeblock_start(band.width, block_x + 1, across) - left;
+            let has_flag = across * down > 1 && !(fault == EMPTY && width * height == 0);
+            if has_flag && bits.take() == 1 {
+                start += if fault == SKIPPED { 0 } else { width };
+                continue;
+            }
+            for layout in layouts(start, stride, width, height, fault) {
+                read_run(&mut bits, &layout, index, plane, fault)?;
+            }
+            start += width;
+        }
+    }
+    Ok(())
+}
+
+/// The decoder with a fault.
+fn fast<const FAULT: u8>(p: &Parameters, job: Job, lent: Lent) -> Answer {
+    fast_unpack(p, job, lent, read_band, FAULT)
+}
+
+#[test]
+fn a_reader_of_many_rows_without_a_fault_is_like_the_reference() {
+    assert_eq!(found(fast::<NONE>, 4000), 0);
+}
+
+#[test]
+fn faults_at_the_borders_of_many_rows_are_found_often() {
+    let faults: [(&str, Decoder); 9] = [
+        ("reciprocal", fast::<RECIPROCAL>),
+        ("coarse", fast::<COARSE>),
+        ("many rows", fast::<MANY_ROWS>),
+        ("sixteen", fast::<SIXTEEN>),
+        ("cut", fast::<CUT>),
+        ("lookups", fast::<LOOKUPS>),
+        ("last bits", fast::<LAST_BITS>),
+        ("empty", fast::<EMPTY>),
+        ("skipped", fast::<SKIPPED>),
+    ];
+    for (name, decoder) in faults {
+        let aimed = cases(Kind::Rectangles).take(1000);
+        let count = aimed.filter(|case| check(case, decoder).is_err()).count();
+        assert!(count >= 10, "{name}: {count} of 1000 cases");
+    }
+}
