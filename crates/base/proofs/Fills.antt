@@ -1,4 +1,4 @@
--- The laws of `fill`: one more store, lengths, what stands where, and a plane filled with zeros.
+-- The laws of `fill`: one more store, lengths, what stands where, and a plane filled with zeros; and of a table that is made entry by entry.
 -- Assumes nothing.
 use mathlib.Core.Path.{_≡_, refl, sym, ap, _∙_, subst}
 use mathlib.Core.Logic.{_≢_}
@@ -102,3 +102,21 @@ module _ {ℓ} {A : Type ℓ} where
 pub zeros-length : (a b : List ℤ) → length a ≡ length b → zerosLike a ≡ zerosLike b
 unfolding zerosLike
 zeros-length a b same = ap (λ (n : ℕ). replicate n (pos 0)) same
+
+-- what holds below a number, and at it
+pub each-more : (P : ℕ → Type 0) (n : ℕ) → ((j : ℕ) → j < n → P j) → P n → (j : ℕ) → j < n + 1 → P j
+each-more P n sofar this j below =
+    elim (decLt j n) [
+      | yes before ↦ sofar j before
+      | no notBefore ↦
+          let last : j ≡ n = omega arith in
+          rw last this
+    ]
+
+-- one more entry of a table
+pub table-more : {A : Type 0} (l : List A) (f : ℕ → A) (e : A) (k : ℕ) (v : A) → k < length l → v ≡ f k → ((j : ℕ) → j < k → getD l j e ≡ f j) →
+    (j : ℕ) → j < k + 1 → getD (set l k v) j e ≡ f j
+table-more l f e k v inside is sofar =
+    each-more (λ j. getD (set l k v) j e ≡ f j) k
+    (λ j before. getD-set-other l k j v e (omega arith) ∙ sofar j before)
+    (getD-set-same l k v e inside ∙ is)

@@ -1,5 +1,7 @@
--- The laws of runs, of dequantising and of values, read one by one or at once, for this crate and those above it.
-pub mod Runs
+-- The laws of reading, for this crate and those above it.
 pub mod QuantiserLaws
-pub mod ValueLaws
-pub mod BatchLaws
+pub mod ScalingLaws
+pub mod ReadingLaws
+pub mod ValuesLaws
+pub mod AheadLaws
+pub mod PortionLaws

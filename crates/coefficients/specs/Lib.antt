@@ -1,4 +1,6 @@
+-- Document 01
 pub mod Quantiser
 pub mod Reading
-pub mod Bounds
-pub mod Batches
+-- The code's own forms
+pub mod Scaling
+pub mod Values

@@ -25,4 +25,4 @@ unfoldable pub scaled : ℕ → ℕ → ℕ → ℕ
 scaled factor offset m = cond (eqb m 0) 0 ((m * factor + offset + 2) / 4)
 
 unfoldable pub dequantise : ℕ → ℕ → ℕ
-dequantise q m = scaled (quantFactor q) (quantOffset q) m
+dequantise q = scaled (quantFactor q) (quantOffset q)

@@ -1,5 +1,4 @@
-// Document 01, "Dequantising" and "One subband": the values of a rectangle of the coefficient plane, from data of a stated length.
-pub mod batches;
-pub mod progress;
+// Document 01, "Dequantising" and "One subband": values, each a signed number, dequantised.
 pub mod quantiser;
+pub mod reading;
 pub mod values;

@@ -1,40 +1,64 @@
 // Document 01, "Dequantising".
 ghost use mathlib.Core.Path.{_≡_};
+ghost use mathlib.Core.Bool.{true};
 ghost use Prim.Native.Nat.{_≤_, _<_, _^_};
 ghost use Rattle.coefficients.specs.Quantiser.{quantFactor, quantOffset, dequantise};
-ghost use Rattle.coefficients.specs.Bounds.{Prepared};
+ghost use Rattle.coefficients.specs.Scaling.{scaleOf, Bounded, smallFit, Small};
+use base::signed;
 
-// A quantiser index, with its factor and its offset.
+// What a size is dequantised by.
 pub struct Quantiser {
-    pub index: u32,
     pub factor: u64,
     pub offset: u64,
 }
 
-// The quantiser of an index.
+// The quantiser of an index. Its numbers are free: whatever they are, sizes become what the index makes of them.
 pub fn quantiser_of(index: u32) -> Quantiser
     requires { ⌜ index ≤ 115 ⌝ }
-    ensures { λ r. ⌜ (r .index ≡ index) × Prepared r ⌝ }
+    ensures { λ r. ⌜ (scaleOf r ≡ dequantise index) × Bounded r ⌝ }
 {
     let factor = quant_factor(index);
     let offset = quant_offset(index, factor);
-    Quantiser {
-        index,
-        factor,
-        offset,
-    }
+    Quantiser { factor, offset }
 }
 
 // A size that was read, dequantised.
 pub fn dequantised(q: Quantiser, size: u32) -> u64
-    requires { ⌜ Prepared q ⌝ }
-    ensures { λ r. ⌜ (r ≡ dequantise (q .index) size) × (r < 2 ^ 63) ⌝ }
+    requires { ⌜ Bounded q ⌝ }
+    ensures { λ r. ⌜ (r ≡ scaleOf q size) × (r < 2 ^ 63) ⌝ }
 {
     if size == 0 {
         return 0;
     }
     let m = size as u64;
     (m * q.factor + q.offset + 2) / 4
+}
+
+// Whether every size below 15, dequantised, fits a plane.
+pub fn small_fit(q: Quantiser) -> bool
+    requires { ⌜ Bounded q ⌝ }
+    ensures { λ r. ⌜ r ≡ smallFit q ⌝ }
+{
+    dequantised(q, 14) < 2147483648
+}
+
+// The dequantised values of the sizes below 15, each above and below 0, where all of them fit a plane; where one does not, they are of no
+// use, and what stands there is free. The last two entries are free, too.
+pub fn small_values(q: Quantiser) -> [i32; 32]
+    requires { ⌜ Bounded q ⌝ }
+    ensures { λ r. ⌜ (smallFit q ≡ true → Small (scaleOf q) r) ⌝ }
+{
+    let mut small = [0; 32];
+    if !small_fit(q) {
+        return small;
+    }
+    let mut k: usize = 0;
+    while k < 30 {
+        let size = (k / 2) as u32;
+        small[k] = signed::narrow(signed::with_sign(dequantised(q, size), k % 2 == 1));
+        k += 1;
+    }
+    small
 }
 
 // The factor of an index.

@@ -1,172 +1,297 @@
-// Document 01, "One subband": values, each a signed number, from data of a stated length.
+// Document 01, "One subband": values, each a signed number, that go one after the other to entries of a plane. Small values are looked up,
+// many at once; the entries hold zeros, so a 0 needs no store.
 ghost use mathlib.Core.Path.{_≡_};
-ghost use mathlib.Core.Bool.{true};
-ghost use Prim.Native.Nat.{_+_, _-_, _*_, _≤_, _<_};
-ghost use lib.ListN.{length};
+ghost use mathlib.Core.Bool.{true, false};
+ghost use Prim.Native.Nat.{_+_, _-_, _≤_, _<_, _^_};
+ghost use lib.ListN.{length, set};
 ghost use Rattle.base.specs.Sign.{withSign};
-ghost use Rattle.exp_golomb.specs.Windows.{Steps};
-ghost use Rattle.coefficients.specs.Quantiser.{dequantise};
-ghost use Rattle.coefficients.specs.Reading.{goesOn, store, value, row, rectangle};
-ghost use Rattle.coefficients.specs.Bounds.{after, Prepared};
-ghost use Rattle.coefficients.specs.Batches.{Small, Zeros};
-use crate::batches::is_ready;
-use crate::batches::read_batch;
-use crate::batches::small_values;
-use crate::progress::Progress;
+ghost use Rattle.exp_golomb.specs.Codes.{nextOf};
+ghost use Rattle.lookups.specs.Lookups.{isWindow, KnowsCodes};
+ghost use Rattle.coefficients.specs.Reading.{store};
+ghost use Rattle.coefficients.specs.Scaling.{scaleOf, Bounded, smallFit};
+ghost use Rattle.coefficients.specs.Values.{after, indexOf, Ready, Decoding, Sound, notRead, Reads, ReadsAhead, AllRead};
 use crate::quantiser::Quantiser;
 use crate::quantiser::dequantised;
+use crate::quantiser::small_fit;
+use crate::reading::Cursor;
+use crate::reading::Portion;
+use crate::reading::Progress;
 use base::signed;
+use base::status::VALUE_OUT_OF_RANGE;
 use exp_golomb::codes::Number;
 use exp_golomb::codes::read_signed;
 use exp_golomb::codes::status;
-use exp_golomb::windows::step_table;
+use lookups::is_window;
+use lookups::lookup_at;
+use lookups::starts_with_ones;
+use lookups::window;
 
-// How many values were read, and how far reading has come.
-pub struct Part {
+// Where values go: value i to entry start + i + floor(i · reciprocal / 2^16) · gap, for i below count.
+pub struct Layout {
+    pub start: usize,
     pub count: usize,
-    pub progress: Progress,
+    pub reciprocal: usize,
+    pub gap: usize,
 }
 
-// Reads a value at a bit of the data and stores it, dequantised, at a place of the plane.
-pub fn read_value(
+// How many values were read, and how many bits they took.
+pub struct Batch {
+    pub count: usize,
+    pub bits: usize,
+}
+
+// Reads the values of a layout from one on. Of data of a stated length it reads all, or up to one that is refused. Of other data it stops
+// where bits are wanting, with fewer than 64 left; where exactly is free, and so is the count from a refused value on: what was read is what
+// all data that begin so have.
+pub fn read_run(
     plane: &mut [i32],
-    place: usize,
+    layout: Layout,
+    from: usize,
     bytes: &[u8],
-    end: usize,
-    at: usize,
+    cursor: Cursor,
     q: Quantiser,
-) -> Progress
-    requires { ⌜ (place < length (now plane)) × Prepared q ⌝ }
-    ensures { λ r. ⌜ after r (now (plane .exit)) ≡ value (now (bytes .entry)) end (q .index) place (goesOn at (now (plane .entry))) ⌝ }
+    table: &[u16; 256],
+    small: &[i32; 32],
+) -> Portion
+    requires { ⌜ Ready layout from (now plane) × Sound cursor × Decoding q (now table) (now small) ⌝ }
+    ensures read { λ r. ⌜ Reads (now (bytes .entry)) cursor (scaleOf q) (indexOf layout) from (now (plane .entry)) r (now (plane .exit)) ⌝ }
+    ensures some { λ r. ⌜ (from + r .count ≤ layout .count) × AllRead (layout .count - from) r ⌝ }
 {
-    let number = read_signed(bytes, end, true, at);
+    let mut next = cursor;
+    let mut i = from;
+    while i < layout.count {
+        let part = read_some(plane, layout, i, bytes, next, q, table, small);
+        i += part.count;
+        let progress = part.progress;
+        let Progress::At { bit } = progress else {
+            return Portion {
+                count: i - from,
+                progress,
+                short: false,
+            };
+        };
+        if part.short {
+            return Portion {
+                count: i - from,
+                progress,
+                short: true,
+            };
+        }
+        next.bit = bit;
+    }
+    Portion {
+        count: i - from,
+        progress: Progress::At { bit: next.bit },
+        short: false,
+    }
+}
+
+// Reads a value or more: many at once where the next bits are there and small values fit.
+fn read_some(
+    plane: &mut [i32],
+    layout: Layout,
+    i: usize,
+    bytes: &[u8],
+    cursor: Cursor,
+    q: Quantiser,
+    table: &[u16; 256],
+    small: &[i32; 32],
+) -> Portion
+    requires { ⌜ (i < layout .count) × Ready layout i (now plane) × Sound cursor × Decoding q (now table) (now small) ⌝ }
+    ensures read { λ r. ⌜ Reads (now (bytes .entry)) cursor (scaleOf q) (indexOf layout) i (now (plane .entry)) r (now (plane .exit)) ⌝ }
+    ensures some { λ r. ⌜ (i + r .count ≤ layout .count) × (r .short ≡ false → 1 ≤ r .count) ⌝ }
+{
+    if small_fit(q) {
+        if is_window(bytes, cursor.end, cursor.bit) {
+            return read_window(plane, layout, i, bytes, cursor, q, table, small);
+        }
+    }
+    read_value(plane, layout, i, bytes, cursor, q)
+}
+
+// Reads values by the next bits, or one value where none ends in them.
+fn read_window(
+    plane: &mut [i32],
+    layout: Layout,
+    i: usize,
+    bytes: &[u8],
+    cursor: Cursor,
+    q: Quantiser,
+    table: &[u16; 256],
+    small: &[i32; 32],
+) -> Portion
+    requires ready { ⌜ (i < layout .count) × Ready layout i (now plane) × Sound cursor × Decoding q (now table) (now small) ⌝ }
+    requires there { ⌜ (smallFit q ≡ true) × (isWindow (now bytes) (cursor .end) (cursor .bit) ≡ true) ⌝ }
+    ensures read { λ r. ⌜ Reads (now (bytes .entry)) cursor (scaleOf q) (indexOf layout) i (now (plane .entry)) r (now (plane .exit)) ⌝ }
+    ensures some { λ r. ⌜ (i + r .count ≤ layout .count) × (r .short ≡ false → 1 ≤ r .count) ⌝ }
+{
+    let w = window(bytes, cursor.bit);
+    let batch = read_batch(plane, layout, i, w, table, small);
+    if batch.count == 0 {
+        return read_value(plane, layout, i, bytes, cursor, q);
+    }
+    Portion {
+        count: batch.count,
+        progress: Progress::At {
+            bit: cursor.bit + batch.bits,
+        },
+        short: false,
+    }
+}
+
+// Reads values by the bits of a window. How many is free: whatever the count, they are the values that the bits begin with.
+fn read_batch(
+    plane: &mut [i32],
+    layout: Layout,
+    from: usize,
+    window: u64,
+    table: &[u16; 256],
+    small: &[i32; 32],
+) -> Batch
+    requires { ⌜ Ready layout from (now plane) × KnowsCodes (now table) ⌝ }
+    ensures { λ r. ⌜
+        (from + r .count ≤ layout .count)
+        × ReadsAhead window (now (small .entry)) (indexOf layout) from (now (plane .entry)) r (now (plane .exit))
+        ⌝ }
+{
+    if 16 <= layout.count - from {
+        if starts_with_ones(window) {
+            return Batch {
+                count: 16,
+                bits: 16,
+            };
+        }
+    }
+    read_lookups(plane, layout, from, window, table, small)
+}
+
+// Reads values by at most seven lookups. Of zeros that pass the layout's end only those before it are taken.
+fn read_lookups(
+    plane: &mut [i32],
+    layout: Layout,
+    from: usize,
+    window: u64,
+    table: &[u16; 256],
+    small: &[i32; 32],
+) -> Batch
+    requires { ⌜ Ready layout from (now plane) × KnowsCodes (now table) ⌝ }
+    ensures { λ r. ⌜
+        (from + r .count ≤ layout .count)
+        × ReadsAhead window (now (small .entry)) (indexOf layout) from (now (plane .entry)) r (now (plane .exit))
+        ⌝ }
+{
+    let mut w = window;
+    let mut i = from;
+    let mut bits = 0;
+    let mut k: usize = 0;
+    while k < 7 {
+        let lookup = lookup_at(table, w);
+        let to = i + lookup.zeros;
+        if layout.count <= to {
+            return Batch {
+                count: layout.count - from,
+                bits: bits + (layout.count - i),
+            };
+        }
+        if lookup.bits == 0 {
+            return Batch {
+                count: i - from,
+                bits,
+            };
+        }
+        let index = index_at(layout, to);
+        let value = lookup.value;
+        plane[index] = small[value];
+        w = w << lookup.bits;
+        i += lookup.count;
+        bits += lookup.bits;
+        k += 1;
+    }
+    Batch {
+        count: i - from,
+        bits,
+    }
+}
+
+// The entry that value i goes to.
+fn index_at(layout: Layout, i: usize) -> usize
+    requires { ⌜ (i ≤ 4096) × (layout .reciprocal ≤ 65537) × (indexOf layout i < 2 ^ 64) ⌝ }
+    ensures { λ r. ⌜ r ≡ indexOf layout i ⌝ }
+{
+    layout.start + i + (i * layout.reciprocal / 65536) * layout.gap
+}
+
+// Reads value i, if it is all there.
+fn read_value(
+    plane: &mut [i32],
+    layout: Layout,
+    i: usize,
+    bytes: &[u8],
+    cursor: Cursor,
+    q: Quantiser,
+) -> Portion
+    requires { ⌜ (i < layout .count) × Ready layout i (now plane) × Sound cursor × Bounded q ⌝ }
+    ensures read { λ r. ⌜ Reads (now (bytes .entry)) cursor (scaleOf q) (indexOf layout) i (now (plane .entry)) r (now (plane .exit)) ⌝ }
+    ensures some { λ r. ⌜ (r .count ≤ 1) × (r .short ≡ false → 1 ≤ r .count) ⌝ }
+{
+    let number = read_signed(bytes, cursor.end, cursor.stated, cursor.bit);
     let Number::Read { size, minus, next } = number else {
-        return Progress::Refused {
-            status: status(number),
+        return not_read(number, cursor);
+    };
+    let index = index_at(layout, i);
+    let progress = store_value(plane, index, size, minus, next, q, cursor.origin);
+    Portion {
+        count: 1,
+        progress,
+        short: false,
+    }
+}
+
+// What follows where no number was read: its refusal, or, where a bit is missing, that it is not all there.
+fn not_read(number: Number, cursor: Cursor) -> Portion
+    requires { ⌜ cursor .origin + nextOf number < 2 ^ 63 ⌝ }
+    ensures { λ r. ⌜ r ≡ notRead number cursor ⌝ }
+{
+    let Number::TooLong { next } = number else {
+        return Portion {
+            count: 0,
+            progress: Progress::At { bit: cursor.bit },
+            short: true,
         };
     };
-    store_value(plane, place, size, minus, next, q)
+    Portion {
+        count: 1,
+        progress: Progress::Refused {
+            status: status(number),
+            bit: cursor.origin + next,
+        },
+        short: false,
+    }
 }
 
-// Stores a number that was read, dequantised, at a place of the plane.
+// Stores a number that was read, dequantised, at an index of the plane.
 fn store_value(
     plane: &mut [i32],
-    place: usize,
+    index: usize,
     size: u32,
     minus: bool,
     next: usize,
     q: Quantiser,
+    origin: usize,
 ) -> Progress
-    requires { ⌜ (place < length (now plane)) × Prepared q ⌝ }
-    ensures { λ r. ⌜ after r (now (plane .exit)) ≡ store (withSign (dequantise (q .index) size) minus) place next (now (plane .entry)) ⌝ }
+    requires { ⌜ (index < length (now plane)) × Bounded q × (origin + next < 2 ^ 63) ⌝ }
+    ensures { λ r. ⌜
+        after r (now (plane .exit))
+        ≡ store origin (withSign (scaleOf q size) minus) (λ v l. set l index v) next (now (plane .entry))
+        ⌝ }
 {
     let v = signed::with_sign(dequantised(q, size), minus);
     if !signed::fits_i32(v) {
-        return Progress::Refused { status: 9 };
-    }
-    plane[place] = signed::narrow(v);
-    Progress::At { next }
-}
-
-// Reads a value or more, where there is room for some: many at once where the plane is ready for them.
-fn read_some(
-    plane: &mut [i32],
-    place: usize,
-    room: usize,
-    bytes: &[u8],
-    end: usize,
-    at: usize,
-    q: Quantiser,
-    ready: bool,
-    table: &[u16; 256],
-    small: &[i32; 32],
-) -> Part
-    requires { ⌜ (1 ≤ room) × (place + room ≤ length (now plane)) × Prepared q × (ready ≡ true → (q .index ≤ 108) × Zeros (now plane) place room) × Steps (now table) × Small (q .index) (now small) ⌝ }
-    ensures { λ r. ⌜ (1 ≤ r .count) × (r .count ≤ room) × (row (now (bytes .entry)) end (q .index) place (r .count) (goesOn at (now (plane .entry))) ≡ after (r .progress) (now (plane .exit))) ⌝ }
-{
-    if ready {
-        let batch = read_batch(plane, place, room, bytes, end, at, table, small);
-        if 0 < batch.count {
-            return Part {
-                count: batch.count,
-                progress: Progress::At {
-                    next: at + batch.bits,
-                },
-            };
-        }
-    }
-    let progress = read_value(plane, place, bytes, end, at, q);
-    Part { count: 1, progress }
-}
-
-// Reads a row of values.
-fn read_row(
-    plane: &mut [i32],
-    place: usize,
-    width: usize,
-    bytes: &[u8],
-    end: usize,
-    at: usize,
-    q: Quantiser,
-    table: &[u16; 256],
-    small: &[i32; 32],
-) -> Progress
-    requires { ⌜ (place + width ≤ length (now plane)) × Prepared q × Steps (now table) × Small (q .index) (now small) ⌝ }
-    ensures { λ r. ⌜ after r (now (plane .exit)) ≡ row (now (bytes .entry)) end (q .index) place width (goesOn at (now (plane .entry))) ⌝ }
-{
-    let ready = is_ready(plane, place, width, q);
-    let mut bit = at;
-    let mut x = 0;
-    while x < width {
-        let part = read_some(
-            plane,
-            place + x,
-            width - x,
-            bytes,
-            end,
-            bit,
-            q,
-            ready,
-            table,
-            small,
-        );
-        let progress = part.progress;
-        let Progress::At { next } = progress else {
-            return progress;
+        return Progress::Refused {
+            status: VALUE_OUT_OF_RANGE,
+            bit: origin + next,
         };
-        bit = next;
-        x += part.count;
     }
-    Progress::At { next: bit }
-}
-
-// Reads the values of a rectangle of the plane, row by row.
-pub fn read_rectangle(
-    plane: &mut [i32],
-    stride: usize,
-    place: usize,
-    width: usize,
-    height: usize,
-    bytes: &[u8],
-    end: usize,
-    at: usize,
-    q: Quantiser,
-) -> Progress
-    requires { ⌜ (width ≤ stride) × (height ≤ 4096) × (stride ≤ 4096) × (place + height * stride ≤ length (now plane) + (stride - width)) × Prepared q ⌝ }
-    ensures { λ r. ⌜ after r (now (plane .exit)) ≡ rectangle (now (bytes .entry)) end (q .index) stride place width height (goesOn at (now (plane .entry))) ⌝ }
-{
-    let table = step_table();
-    let small = small_values(q);
-    let mut bit = at;
-    let mut y = 0;
-    while y < height {
-        let from = place + y * stride;
-        let progress = read_row(plane, from, width, bytes, end, bit, q, &table, &small);
-        let Progress::At { next } = progress else {
-            return progress;
-        };
-        bit = next;
-        y += 1;
-    }
-    Progress::At { next: bit }
+    plane[index] = signed::narrow(v);
+    Progress::At { bit: next }
 }

@@ -108,11 +108,6 @@ chain-passed true true false false true e =
     record { sizes-pass = refl; depth-passes = refl; wavelet-passes = refl; codeblocks-pass = refl; planes-pass = refl }
 
 module _ (job : Job) (p : Parameters) (l : Lengths) where
-  -- no refusal: every check passed
-  pub passed : refusalOf job p l ≡ 0 → Passed (sizesInRange p) (depthInRange p) (transforms job && not (waveletInRange p)) (unpacks job && not (codeblocksInRange p)) (planesFit job p l)
-  unfolding refusalOf chain
-  passed e = chain-passed _ _ _ _ _ e
-
   -- each refusal, from the checks before it and its own
   pub refused-1 : sizesInRange p ≡ false → 1 ≡ refusalOf job p l
   unfolding refusalOf
@@ -137,3 +132,8 @@ module _ (job : Job) (p : Parameters) (l : Lengths) where
   pub refused-none : sizesInRange p ≡ true → depthInRange p ≡ true → transforms job && not (waveletInRange p) ≡ false → unpacks job && not (codeblocksInRange p) ≡ false → planesFit job p l ≡ true → 0 ≡ refusalOf job p l
   unfolding refusalOf
   refused-none s d w b f = rw (s, d, w, b, f)
+
+  -- no refusal: every check passed
+  pub passed : refusalOf job p l ≡ 0 → Passed (sizesInRange p) (depthInRange p) (transforms job && not (waveletInRange p)) (unpacks job && not (codeblocksInRange p)) (planesFit job p l)
+  unfolding refusalOf chain
+  passed e = chain-passed _ _ _ _ _ e

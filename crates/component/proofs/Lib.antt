@@ -3,3 +3,4 @@ pub mod SizeLaws
 pub mod CheckLaws
 pub mod SubbandLaws
 pub mod Tiling
+pub mod PartitionLaws

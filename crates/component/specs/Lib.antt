@@ -1,3 +1,4 @@
 pub mod Sizes
 pub mod Subbands
+pub mod Partition
 pub mod Checks

@@ -6,27 +6,29 @@ use crate::parameters::Job;
 use crate::parameters::Lengths;
 use crate::parameters::Parameters;
 use crate::sizes::padded_size;
+use base::limits;
+use base::status;
 
 // The first of refusals 1 to 5 that applies to a job, in the order of their numbers, or 0.
 pub fn refusal(job: Job, p: Parameters, lengths: Lengths) -> u32
     ensures { λ r. ⌜ r ≡ refusalOf job p lengths ⌝ }
 {
     if !sizes_in_range(p) {
-        return 1;
+        return status::SIZE_REFUSED;
     }
-    if !in_range(0, 4, p.depth) {
-        return 2;
+    if !in_range(0, limits::DEPTH_MOST, p.depth) {
+        return status::DEPTH_REFUSED;
     }
     if wavelet_refused(job, p) {
-        return 3;
+        return status::WAVELET_REFUSED;
     }
     if codeblocks_refused(job, p) {
-        return 4;
+        return status::CODEBLOCKS_REFUSED;
     }
     if !planes_fit(job, p, lengths) {
-        return 5;
+        return status::PLANE_REFUSED;
     }
-    0
+    status::ACCEPTED
 }
 
 // Whether the number lies in a range, both ends included.
@@ -41,7 +43,7 @@ fn wavelet_refused(job: Job, p: Parameters) -> bool
     ensures { λ r. ⌜ r ≡ transforms job && not (waveletInRange p) ⌝ }
 {
     if transforms(job) {
-        !in_range(0, 6, p.wavelet)
+        !in_range(0, limits::WAVELET_MOST, p.wavelet)
     } else {
         false
     }
@@ -85,7 +87,7 @@ fn transforms(job: Job) -> bool
 pub fn sizes_in_range(p: Parameters) -> bool
     ensures { λ r. ⌜ r ≡ sizesInRange p ⌝ }
 {
-    in_range(1, 4096, p.width) && in_range(1, 4096, p.height)
+    in_range(1, limits::SIZE_MOST, p.width) && in_range(1, limits::SIZE_MOST, p.height)
 }
 
 // Whether the codeblock counts of levels 0 to depth are in range.
@@ -110,7 +112,7 @@ fn codeblocks_in_range(p: Parameters) -> bool
 fn counts_in_range(across: u32, down: u32) -> bool
     ensures { λ r. ⌜ r ≡ inRange 1 255 across && inRange 1 255 down ⌝ }
 {
-    in_range(1, 255, across) && in_range(1, 255, down)
+    in_range(1, limits::CODEBLOCKS_MOST, across) && in_range(1, limits::CODEBLOCKS_MOST, down)
 }
 
 // Whether each plane that a job is lent has exactly the length it needs.

@@ -8,6 +8,15 @@ ghost use Rattle.base.specs.Every.{allBelow};
 ghost use Rattle.contents.specs.Table.{statedCount, entryPlace, bigEndian, codeblockCount, codeblockCounts, parametersAt, bodyStart, entryIsRight, tableIsRight, entryCount, entryAt};
 use component::parameters::Parameters;
 
+// The most bytes that a recording has.
+pub const FILE_MOST: usize = 65536;
+
+// The most entries that a recording has.
+pub const ENTRIES_MOST: usize = 16;
+
+// How many bytes of the table an entry takes.
+const ENTRY_SIZE: usize = 26;
+
 // What an entry says: the parameters of its component, where its body starts in the file, and how many bytes that has.
 pub struct Entry {
     pub parameters: Parameters,
@@ -60,14 +69,14 @@ fn parameters_at(file: &[u8], k: usize) -> Parameters
 fn table_is_right(file: &[u8]) -> bool
     ensures { λ r. ⌜ r ≡ tableIsRight (now (file .entry)) ⌝ }
 {
-    if 65536 < file.len() {
+    if FILE_MOST < file.len() {
         return false;
     }
     let count = stated_count(file);
     if count < 1 {
         return false;
     }
-    if 16 < count {
+    if ENTRIES_MOST < count {
         return false;
     }
     if file.len() < entry_place(count) {
@@ -123,7 +132,7 @@ fn entry_place(k: usize) -> usize
     requires { ⌜ k ≤ 16 ⌝ }
     ensures { λ r. ⌜ r ≡ entryPlace k ⌝ }
 {
-    1 + 26 * k
+    1 + ENTRY_SIZE * k
 }
 
 // The codeblock counts of five levels, which stand in every other byte from a place on.

@@ -3,7 +3,7 @@
 use mathlib.Core.Path.{_≡_, refl, sym, _∙_}
 use mathlib.Core.Bool.{Bool, true, false}
 use mathlib.Core.List.{List}
-use Prim.Native.Nat.{ℕ, _+_, _-_, _*_, _/_, _≤_, _<_, min}
+use Prim.Native.Nat.{ℕ, _+_, _*_, _/_, _≤_, _<_, min}
 use native.Mathlib.Omega.{arith}
 use lib.Dec.{ltb}
 use lib.ListN.{length}
@@ -86,3 +86,17 @@ taken bytes end stated i bit next e = by-presence (present bytes end i) refl
     by-presence : (q : Bool) → present bytes end i ≡ q → BitTaken bytes end i bit next
     by-presence true p = there p
     by-presence false p = past p stated refl
+
+-- a bit that was taken from data of no stated length is one that is there
+pub unstated-taken : (bytes : List ℕ) (end i bit next : ℕ) → takeBit bytes end false i ≡ Taken bit next →
+    (i < min end (8 * length bytes)) × (bitAt bytes i ≡ bit) × (i + 1 ≡ next)
+unstated-taken bytes end i bit next e = by (present bytes end i) refl
+  where
+    by : (there : Bool) → present bytes end i ≡ there → (i < min end (8 * length bytes)) × (bitAt bytes i ≡ bit) × (i + 1 ≡ next)
+    by true p =
+        let same : Taken (bitAt bytes i) (i + 1) ≡ Taken bit next = sym (take-present bytes end i false p) ∙ e in
+        (present-below bytes end i p, cc, cc)
+    by false p =
+        let same : Absent ≡ Taken bit next = sym (take-absent bytes end i false p refl) ∙ e in
+        let z : _≡_ {A = ℕ} 0 1 = cc in
+        absurd (omega arith)

@@ -1,33 +1,28 @@
--- How far a number code reaches: its places stay within the data and within 63 bits, so what lies further on does not matter.
+-- How far a number code reaches: its bits stay within the data and within 63 bits, so what lies further on does not matter.
 -- Assumes nothing.
 use mathlib.Core.Path.{_≡_, refl, sym, _∙_, subst}
-use mathlib.Core.Bool.{Bool}
+use mathlib.Core.Bool.{Bool, true, false}
 use mathlib.Core.List.{List}
 use Prim.Native.Nat.{ℕ, zero, suc, _+_, _-_, _*_, _≤_, min}
-use native.Mathlib.Decide.{ℕ-discrete}
+use native.Mathlib.Decide.{ℕ-discrete, decLe}
 use native.Mathlib.Omega.{arith}
 use lib.ListN.{length}
+use borrow.Author.Tests.{le-ltb}
 use Rattle.exp_golomb.specs.Bits.{present, takeBit}
-use Rattle.exp_golomb.specs.Codes.{codeFrom, unsigned}
+use Rattle.exp_golomb.specs.Codes.{nextOf, codeFrom, unsigned, withSignBit, signed}
 use Rattle.exp_golomb.specs.declared.bits.Bit.{Bit}
 use Rattle.exp_golomb.specs.declared.bits.Bit.the-variants.{Taken, Absent}
 use Rattle.exp_golomb.specs.declared.codes.Number.{Number}
 use Rattle.exp_golomb.specs.declared.codes.Number.the-variants.{Read, Missing, TooLong}
-use Rattle.exp_golomb.proofs.BitLaws.{taken}
-use Rattle.exp_golomb.proofs.CodeLaws.{code-missing, code-ends, code-too-long, code-cut, code-goes-on}
-
--- The place that an answer carries.
-unfoldable pub nextOf : Number → ℕ
-nextOf (Read size minus next) = next
-nextOf (Missing next) = next
-nextOf (TooLong next) = next
+use Rattle.exp_golomb.proofs.BitLaws.{take-absent, take-past-stated, taken}
+use Rattle.exp_golomb.proofs.CodeLaws.{code-missing, code-ends, code-too-long, code-cut, code-goes-on, sign-none, sign-missing, sign-read}
 
 -- what taking a bit can find
 pub takes : (P : Type 0) (b : Bit) → ((bit next : ℕ) → b ≡ Taken bit next → P) → (b ≡ Absent → P) → P
 takes P (Taken bit next) yes-bit no-bit = yes-bit bit next refl
 takes P Absent yes-bit no-bit = no-bit refl
 
--- A place within reach of a code of so many data bits that starts at place i, in data that end at `last`.
+-- A position that a code of so many data bits, which starts at bit i, can come to, in data that end at `last`.
 pub record Reach (i left last next : ℕ) : Type 0 where
   pub onward : i ≤ next
   pub near : next ≤ i + 2 * left + 1
@@ -43,9 +38,8 @@ module _ (bytes : List ℕ) (end : ℕ) (stated : Bool) where
   abbrev code : ℕ → ℕ → ℕ → Number
   code = codeFrom bytes end stated
 
-  -- every place that a code reaches
+  -- every position that a code comes to
   pub code-reach : (left v i : ℕ) → Reach i left last (nextOf (code left v i))
-  unfolding nextOf
   code-reach zero v i =
       takes (Reach i zero last (nextOf (code zero v i))) (take i)
       (λ bit next e.
@@ -81,8 +75,65 @@ module _ (bytes : List ℕ) (end : ℕ) (stated : Bool) where
 
   -- a number that was read, from its start on
   pub unsigned-reach : (i size : ℕ) (minus : Bool) (next : ℕ) → unsigned bytes end stated i ≡ Read size minus next → Reach i 31 last next
-  unfolding unsigned nextOf
+  unfolding unsigned
   unsigned-reach i size minus next e = subst (λ (n : Number). Reach i 31 last (nextOf n)) e (code-reach 31 1 i)
+
+  -- every position that a signed number comes to: one bit more
+  signed-extent : (i : ℕ) → Reach i 32 last (nextOf (signed bytes end stated i))
+  unfolding signed unsigned withSignBit
+  signed-extent i = by (unsigned bytes end stated i) refl (code-reach 31 1 i)
+    where
+      more : {next : ℕ} → Reach i 31 last next → Reach i 32 last next
+      more reach = record { onward = reach .onward; near = omega (arith, reach .near); within = reach .within }
+
+      by : (number : Number) → unsigned bytes end stated i ≡ number → Reach i 31 last (nextOf number) → Reach i 32 last (nextOf (signed bytes end stated i))
+      by (Read size minus next) u reach =
+          elim (ℕ-discrete size 0) [
+            | yes none ↦ rw (sign-none bytes end stated (unsigned bytes end stated i) size minus next u none) (more reach)
+            | no some ↦
+                takes (Reach i 32 last (nextOf (signed bytes end stated i))) (take next)
+                (λ bit after e.
+                let t = taken bytes end stated next bit after e in
+                rw (sign-read bytes end stated (unsigned bytes end stated i) size minus next bit after u some e)
+                (record {
+                  onward = omega (arith, reach .onward, t .goes-on);
+                  near = omega (arith, reach .near, t .one-at-most);
+                  within = λ h. t .within (reach .within h);
+                }))
+                (λ e. rw (sign-missing bytes end stated (unsigned bytes end stated i) size minus next u some e) (more reach))
+          ]
+      by (Missing next) u reach = rw u (more reach)
+      by (TooLong next) u reach = rw u (more reach)
+
+  -- a signed number ends no earlier than it starts
+  pub signed-onward : (i : ℕ) → i ≤ nextOf (signed bytes end stated i)
+  signed-onward i = signed-extent i .onward
+
+  -- one that starts within the data ends within them
+  pub signed-reach : (i : ℕ) → i ≤ last → nextOf (signed bytes end stated i) ≤ last
+  signed-reach i = signed-extent i .within
+
+  -- one that starts past the data takes no bit
+  pub signed-past : (i : ℕ) → last ≤ i → nextOf (signed bytes end stated i) ≡ i
+  unfolding present signed unsigned withSignBit
+  signed-past i past = by stated refl
+    where
+      none : present bytes end i ≡ false
+      none = le-ltb i last past
+
+      by : (s : Bool) → stated ≡ s → nextOf (signed bytes end stated i) ≡ i
+      by true e =
+          let zero-read = code-ends bytes end stated 31 1 i 1 i (take-past-stated bytes end i stated none e) refl in
+          rw (sign-none bytes end stated (unsigned bytes end stated i) 0 false i zero-read refl) refl
+      by false e = rw (code-missing bytes end stated 31 1 i (take-absent bytes end i stated none e)) refl
+
+  -- one that starts before the end of the data, or at it, goes no further
+  pub signed-before : (i : ℕ) → i ≤ end → nextOf (signed bytes end stated i) ≤ end
+  signed-before i before =
+      elim (decLe i last) [
+        | yes inside ↦ omega (arith, signed-reach i inside)
+        | no beyond ↦ omega (arith, signed-past i (omega arith))
+      ]
 
 -- another end, where the bits within reach are the same
 module _ (bytes : List ℕ) (end₁ end₂ : ℕ) (stated : Bool) where

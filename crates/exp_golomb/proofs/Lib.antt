@@ -2,6 +2,5 @@
 pub mod BitLaws
 pub mod CodeLaws
 pub mod Extent
+pub mod Moved
 pub mod Followed
-pub mod WindowLaws
-pub mod StepLaws

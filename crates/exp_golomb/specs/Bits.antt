@@ -17,7 +17,7 @@ bitAt bytes i = getD bytes (i / 8) 0 / 2 ^ (7 - i % 8) % 2
 unfoldable pub present : List ℕ → ℕ → ℕ → Bool
 present bytes end i = ltb i (min end (8 * length bytes))
 
--- The bit at place i, with the place after it: the bit that is there; or else, "In block data of a stated length, a bit past the length
+-- Bit i, with the position of the next one: the bit that is there; or else, "In block data of a stated length, a bit past the length
 -- reads as 1 instead", and none is taken.
 unfoldable pub takeBit : List ℕ → ℕ → Bool → ℕ → Bit
 takeBit bytes end stated i = cond (present bytes end i) (Taken (bitAt bytes i) (i + 1)) (cond stated (Taken 1 i) Absent)

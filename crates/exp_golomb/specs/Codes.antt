@@ -15,7 +15,13 @@ statusOf (Read size minus next) = 0
 statusOf (Missing next) = 6
 statusOf (TooLong next) = 7
 
--- What follows a bit taken at place i, or the refusal where it is missing.
+-- The bit after those taken: for a missing bit all bits that were there, for a code that is too long up to and including the last 0.
+abbrev pub nextOf : Number → ℕ
+nextOf (Read size minus next) = next
+nextOf (Missing next) = next
+nextOf (TooLong next) = next
+
+-- What follows a bit taken at bit i, or the refusal where it is missing.
 unfoldable pub onBit : Bit → ℕ → (ℕ → ℕ → Number) → Number
 onBit (Taken bit next) i go = go bit next
 onBit Absent i go = Missing i

@@ -1,3 +1,5 @@
+-- Document 01
 pub mod Bits
 pub mod Codes
-pub mod Windows
+-- The code's own forms
+pub mod Begins

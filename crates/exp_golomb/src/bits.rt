@@ -2,13 +2,13 @@
 ghost use mathlib.Core.Path.{_≡_};
 ghost use Rattle.exp_golomb.specs.Bits.{present, takeBit};
 
-// What taking a bit finds: the bit, with the place after it, or nothing.
+// What taking a bit finds: the bit, with the next one's position, or nothing.
 pub enum Bit {
     Taken { bit: u64, next: usize },
     Absent,
 }
 
-// The bit at a place of data that end at bit `end` or where the bytes do. Past data of a stated length it is 1.
+// Bit `at` of data that end at bit `end` or where the bytes do. Past data of a stated length it is 1.
 pub fn take_bit(bytes: &[u8], end: usize, stated: bool, at: usize) -> Bit
     ensures { λ r. ⌜ r ≡ takeBit (now (bytes .entry)) end stated at ⌝ }
 {

@@ -1,10 +1,14 @@
 // Document 01, "Number codes": unsigned and signed numbers.
 ghost use mathlib.Core.Path.{_≡_};
-ghost use Rattle.exp_golomb.specs.Codes.{statusOf, unsigned, signed};
+ghost use Rattle.exp_golomb.specs.Codes.{statusOf, nextOf, unsigned, signed};
 use crate::bits::Bit;
 use crate::bits::take_bit;
+use base::limits::DATA_BITS_MOST;
+use base::status::ACCEPTED;
+use base::status::BYTES_END_EARLY;
+use base::status::CODE_TOO_LONG;
 
-// What reading a number finds. `next` is the place after the bits taken, which are never past the end.
+// What reading a number finds. `next` is the bit after those taken, which are never past the end.
 pub enum Number {
     // A number that was read: its size, and whether it is below 0.
     Read { size: u32, minus: bool, next: usize },
@@ -23,22 +27,37 @@ pub fn status(number: Number) -> u32
             size: _,
             minus: _,
             next: _,
-        } => 0,
-        Number::Missing { next: _ } => 6,
-        Number::TooLong { next: _ } => 7,
+        } => ACCEPTED,
+        Number::Missing { next: _ } => BYTES_END_EARLY,
+        Number::TooLong { next: _ } => CODE_TOO_LONG,
     }
 }
 
-// The unsigned number whose code starts at a place of data that end at bit `end`, or where the bytes do.
+// The bit after those taken, on refusal too.
+pub fn next_bit(number: Number) -> usize
+    ensures { λ r. ⌜ r ≡ nextOf number ⌝ }
+{
+    match number {
+        Number::Read {
+            size: _,
+            minus: _,
+            next,
+        } => next,
+        Number::Missing { next } => next,
+        Number::TooLong { next } => next,
+    }
+}
+
+// The unsigned number whose code starts at bit `at` of data that end at bit `end`, or where the bytes do.
 pub fn read_unsigned(bytes: &[u8], end: usize, stated: bool, at: usize) -> Number
     ensures { λ r. ⌜ r ≡ unsigned (now (bytes .entry)) end stated at ⌝ }
 {
     let mut v: u64 = 1;
-    let mut left: u32 = 31;
-    let mut place = at;
+    let mut left: u32 = DATA_BITS_MOST;
+    let mut i = at;
     loop {
-        let Bit::Taken { bit, next } = take_bit(bytes, end, stated, place) else {
-            return Number::Missing { next: place };
+        let Bit::Taken { bit, next } = take_bit(bytes, end, stated, i) else {
+            return Number::Missing { next: i };
         };
         if bit == 1 {
             let size = (v - 1) as u32;
@@ -59,12 +78,12 @@ pub fn read_unsigned(bytes: &[u8], end: usize, stated: bool, at: usize) -> Numbe
             return Number::Missing { next };
         };
         v = 2 * v + d;
-        place = after;
+        i = after;
         left -= 1;
     }
 }
 
-// The signed number whose code starts at a place of data that end at bit `end`, or where the bytes do.
+// The signed number whose code starts at bit `at` of data that end at bit `end`, or where the bytes do.
 pub fn read_signed(bytes: &[u8], end: usize, stated: bool, at: usize) -> Number
     ensures { λ r. ⌜ r ≡ signed (now (bytes .entry)) end stated at ⌝ }
 {

@@ -5,6 +5,10 @@ use crate::input::read_all;
 use libc::STDERR_FILENO;
 use libc::STDIN_FILENO;
 use libc::STDOUT_FILENO;
+use recording::AREA_MOST;
+use recording::FILE_ROOM;
+use recording::PARTS_MOST;
+use recording::TEXT_ROOM;
 use recording::output_part;
 
 // The first argument names the file; with none, the recording is the standard input.
@@ -60,7 +64,7 @@ fn is_same(word: &[u8], other: &[u8]) -> bool {
 // Decodes the recording that a descriptor gives, or says why it cannot be read. A recording has at most 65,536 bytes, so one byte more
 // tells that it is too long.
 fn decode_from(fd: i32, name: &[u8]) {
-    let mut file = [0u8; 65537];
+    let mut file = [0u8; FILE_ROOM];
     let reading = read_all(fd, &mut file);
     if reading.is_failed {
         fail(name);
@@ -72,12 +76,12 @@ fn decode_from(fd: i32, name: &[u8]) {
 
 // Writes what a recording decodes to, part by part.
 fn write_output(file: &[u8]) {
-    let mut coefficients = [0i32; 16384];
-    let mut work = [0i32; 16384];
-    let mut samples = [0i32; 16384];
-    let mut text = [0u8; 204800];
+    let mut coefficients = [0i32; AREA_MOST];
+    let mut work = [0i32; AREA_MOST];
+    let mut samples = [0i32; AREA_MOST];
+    let mut text = [0u8; TEXT_ROOM];
     let mut k = 0;
-    while k < 16 {
+    while k < PARTS_MOST {
         let count = output_part(
             file,
             k,

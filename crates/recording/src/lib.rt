@@ -15,20 +15,34 @@ use crate::planes::lent_area;
 use crate::planes::lent_samples;
 use base::plane::zero;
 use component::parameters::Parameters;
+use contents::table::ENTRIES_MOST;
+use contents::table::FILE_MOST;
 use contents::table::entry_at;
 use contents::table::entry_count;
 use decode::decode;
 use text::put_word;
+
+// Room for a recording, with one byte more, which tells that a file is too long.
+pub const FILE_ROOM: usize = FILE_MOST + 1;
+
+// The most parts that a recording decodes to.
+pub const PARTS_MOST: usize = ENTRIES_MOST;
+
+// The largest padded area that an entry is lent planes for.
+pub const AREA_MOST: usize = 16384;
+
+// Room for the text of a part: 12 bytes for each sample, and 8,192 for the lines' ends and the heading.
+pub const TEXT_ROOM: usize = 204800;
 
 // Puts part k of what a file decodes to at the start of the text, and answers how long it is. There are at most 16 parts: one for each
 // entry, or one that says that the table is wrong. The planes may hold anything before and after.
 pub fn output_part(
     file: &[u8],
     k: usize,
-    coefficients: &mut [i32; 16384],
-    work: &mut [i32; 16384],
-    samples: &mut [i32; 16384],
-    text: &mut [u8; 204800],
+    coefficients: &mut [i32; AREA_MOST],
+    work: &mut [i32; AREA_MOST],
+    samples: &mut [i32; AREA_MOST],
+    text: &mut [u8; TEXT_ROOM],
 ) -> usize
     ensures { λ r. ⌜ take r (now (text .exit)) ≡ part (now (file .entry)) k ⌝ }
     ensures { λ r. ⌜ Counts r (now (text .exit)) ⌝ }

@@ -4,6 +4,8 @@ ghost use Prim.Native.Nat.{_*_};
 ghost use mathlib.Core.Bool.{cond};
 ghost use Rattle.component.specs.Checks.{areaOf};
 ghost use Rattle.recording.specs.Output.{isLent};
+use crate::AREA_MOST;
+use base::limits::DEPTH_MOST;
 use component::checks::padded_area;
 use component::checks::sizes_in_range;
 use component::parameters::Parameters;
@@ -15,10 +17,10 @@ fn is_lent(p: Parameters) -> bool
     if !sizes_in_range(p) {
         return false;
     }
-    if 4 < p.depth {
+    if DEPTH_MOST < p.depth {
         return false;
     }
-    padded_area(p) <= 16384
+    padded_area(p) <= AREA_MOST
 }
 
 // How many coefficients an entry is lent, and as much work.

@@ -3,7 +3,7 @@
 use mathlib.Core.Path.{_≡_, refl, sym, subst}
 use mathlib.Core.List.{List}
 use mathlib.Core.Logic.{_≢_}
-use Prim.Native.Nat.{ℕ, zero, suc, _+_}
+use Prim.Native.Nat.{ℕ, zero, suc, _+_, _/_}
 use native.Mathlib.Omega.{arith}
 use lib.IntN.{ℤ}
 use lib.ListN.{length, length-replicate}
@@ -17,15 +17,15 @@ use Rattle.component.specs.declared.parameters.Parameters.{Parameters}
 use Rattle.component.specs.declared.parameters.Job.the-variants.{Unpack}
 use Rattle.component.proofs.CheckLaws.{passed}
 use Rattle.coefficients.specs.Reading.{Run, goesOn, stops}
-use Rattle.coefficients.specs.declared.progress.Progress.{Progress}
-use Rattle.coefficients.specs.declared.progress.Progress.the-variants.{At, Refused}
+use Rattle.coefficients.specs.declared.reading.Progress.{Progress}
+use Rattle.coefficients.specs.declared.reading.Progress.the-variants.{At, Refused}
 use Rattle.unpack.specs.Subband.{subband}
 use Rattle.unpack.specs.Job.{Unpacked, endedWith, subbandsFrom, unpacked}
 use Rattle.unpack.specs.Bounds.{Checked}
 
-module _ (p : Parameters) (bytes : List ℕ) (k start : ℕ) (plane : List ℤ) where
+module _ (p : Parameters) (bytes : List ℕ) (k at : ℕ) (plane : List ℤ) where
   -- after the last
-  pub subbands-end : subbandsFrom p bytes zero k start plane ≡ record { status = 0; place = start; coefficients = plane }
+  pub subbands-end : subbandsFrom p bytes zero k at plane ≡ record { status = 0; place = at / 8; coefficients = plane }
   unfolding subbandsFrom
   subbands-end = refl
 
@@ -34,32 +34,32 @@ module _ (p : Parameters) (bytes : List ℕ) (k start : ℕ) (plane : List ℤ) 
     abbrev endsWith : Run → Unpacked
     endsWith r = endedWith k (r .progress) (r .plane) (subbandsFrom p bytes n (suc k))
 
-    pub subbands-next : (next : ℕ) (last : List ℤ) → goesOn next last ≡ subband p bytes k (goesOn start plane) →
-        subbandsFrom p bytes (suc n) k start plane ≡ subbandsFrom p bytes n (k + 1) next last
+    pub subbands-next : (bit : ℕ) (last : List ℤ) → goesOn bit last ≡ subband p bytes k (goesOn at plane) →
+        subbandsFrom p bytes (suc n) k at plane ≡ subbandsFrom p bytes n (k + 1) bit last
     unfolding subbandsFrom endedWith
-    subbands-next next last e =
+    subbands-next bit last e =
         let more : k + 1 ≡ suc k = omega arith in
-        rw more (subst (λ (r : Run). endsWith r ≡ subbandsFrom p bytes n (suc k) next last) e refl)
+        rw more (subst (λ (r : Run). endsWith r ≡ subbandsFrom p bytes n (suc k) bit last) e refl)
 
-    pub subbands-stop : (status : ℕ) (last : List ℤ) → stops status last ≡ subband p bytes k (goesOn start plane) →
-        subbandsFrom p bytes (suc n) k start plane ≡ record { status = status; place = k; coefficients = zerosLike last }
+    pub subbands-stop : (status bit : ℕ) (last : List ℤ) → stops status bit last ≡ subband p bytes k (goesOn at plane) →
+        subbandsFrom p bytes (suc n) k at plane ≡ record { status = status; place = k; coefficients = zerosLike last }
     unfolding subbandsFrom endedWith
-    subbands-stop status last e = subst (λ (r : Run). endsWith r ≡ record { status = status; place = k; coefficients = zerosLike last }) e refl
+    subbands-stop status bit last e = subst (λ (r : Run). endsWith r ≡ record { status = status; place = k; coefficients = zerosLike last }) e refl
 
 -- An outcome that is no refusal, or leaves zeros.
 abbrev pub ZeroedIfRefused : Unpacked → Type 0
 ZeroedIfRefused u = u .status ≢ 0 → u .coefficients ≡ zerosLike (u .coefficients)
 
 ended-zeroed : (k : ℕ) (progress : Progress) (plane : List ℤ) (go : ℕ → List ℤ → Unpacked) →
-    ((next : ℕ) (after : List ℤ) → ZeroedIfRefused (go next after)) → ZeroedIfRefused (endedWith k progress plane go)
+    ((bit : ℕ) (after : List ℤ) → ZeroedIfRefused (go bit after)) → ZeroedIfRefused (endedWith k progress plane go)
 unfolding endedWith zerosLike
-ended-zeroed k (At next) plane go later some = later next plane some
-ended-zeroed k (Refused status) plane go later some = sym (zeros-length (zerosLike plane) plane (length-replicate _ _))
+ended-zeroed k (At bit) plane go later some = later bit plane some
+ended-zeroed k (Refused status bit) plane go later some = sym (zeros-length (zerosLike plane) plane (length-replicate _ _))
 
-subbands-zeroed : (p : Parameters) (bytes : List ℕ) (n k start : ℕ) (plane : List ℤ) → ZeroedIfRefused (subbandsFrom p bytes n k start plane)
+subbands-zeroed : (p : Parameters) (bytes : List ℕ) (n k at : ℕ) (plane : List ℤ) → ZeroedIfRefused (subbandsFrom p bytes n k at plane)
 unfolding subbandsFrom
-subbands-zeroed p bytes zero k start plane some = absurd (some refl)
-subbands-zeroed p bytes (suc n) k start plane some = ended-zeroed k _ _ (subbandsFrom p bytes n (suc k)) (subbands-zeroed p bytes n (suc k)) some
+subbands-zeroed p bytes zero k at plane some = absurd (some refl)
+subbands-zeroed p bytes (suc n) k at plane some = ended-zeroed k _ _ (subbandsFrom p bytes n (suc k)) (subbands-zeroed p bytes n (suc k)) some
 
 -- What the checks say of a plane.
 abbrev pub status : Parameters → List ℤ → ℕ

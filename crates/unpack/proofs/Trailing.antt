@@ -4,47 +4,35 @@
 use mathlib.Core.Path.{_≡_, refl, sym, ap, _∙_}
 use mathlib.Core.Bool.{Bool, true, false, cond}
 use mathlib.Core.List.{List, _++_}
-use Prim.Native.Nat.{ℕ, zero, suc, _+_, _*_, _≤_}
+use Prim.Native.Nat.{ℕ, zero, suc, _+_, _*_, _/_, _%_, _≤_}
 use native.Mathlib.Omega.{arith}
-use lib.Dec.{eqb, ltb}
+use lib.Dec.{ltb}
 use lib.IntN.{ℤ}
 use lib.ListN.{length, take, drop, length-append, length-take, length-drop, take-append-drop}
 use lib.Seq.{take-append-le, drop-append-le}
-use borrow.Author.Tests.{le-ltb, eqb-true, eqb-false}
+use borrow.Author.Tests.{le-ltb}
 use Rattle.base.specs.Fill.{zerosLike}
-use Rattle.component.specs.Sizes.{paddedSize}
 use Rattle.component.specs.Subbands.{subbandCount}
 use Rattle.component.specs.declared.parameters.Parameters.{Parameters}
-use Rattle.exp_golomb.specs.Codes.{unsigned}
-use Rattle.exp_golomb.specs.declared.codes.Number.{Number}
-use Rattle.exp_golomb.specs.declared.codes.Number.the-variants.{Read, Missing, TooLong}
-use Rattle.exp_golomb.proofs.Extent.{unsigned-reach}
-use Rattle.exp_golomb.proofs.Followed.{number-followed}
-use Rattle.coefficients.specs.Reading.{Run, goesOn, going, onNumber}
-use Rattle.coefficients.specs.declared.progress.Progress.{Progress}
-use Rattle.coefficients.specs.declared.progress.Progress.the-variants.{At, Refused}
-use Rattle.unpack.specs.Prediction.{prediction}
-use Rattle.unpack.specs.Subband.{bytesOf, goesOnAt, subbandData, checkedData, subbandFrom, subbandOf, predictedSubband, subband}
+use Rattle.coefficients.specs.Reading.{Run, goesOn, going}
+use Rattle.coefficients.specs.declared.reading.Progress.{Progress}
+use Rattle.coefficients.specs.declared.reading.Progress.the-variants.{At, Refused}
+use Rattle.codeblocks.specs.declared.CodeblockGrid.{CodeblockGrid}
+use Rattle.prediction.specs.Prediction.{prediction}
+use Rattle.unpack.specs.Subband.{headerAt, goesOnAt, subbandData, checkedData, headed, predictedBand, isPredicted, codeblocksOf, subbandFrom, subband}
 use Rattle.unpack.specs.Job.{Unpacked, endedWith, subbandsFrom, unpacked}
-use Rattle.unpack.proofs.PredictionLaws.{prediction-stays}
-use Rattle.unpack.proofs.HeaderLaws.{no-data, header-read}
+use Rattle.unpack.specs.declared.header.Header.{Header}
+use Rattle.unpack.specs.declared.header.Header.the-variants.{Skipped, Coded, Refused as RefusedHeader}
+use Rattle.unpack.proofs.HeaderLaws.{Announced, header-announced, EndsBy, header-followed}
 use Rattle.unpack.proofs.JobLaws.{job-read}
-use Rattle.unpack.proofs.Within.{Sound, Between, prediction-sound, subband-sound, used-between, accepted-read, used-at-most}
+use Rattle.unpack.proofs.Within.{Lands, Ends, Between, subband-lands, used-between, accepted-read, used-at-most}
 
--- A run goes on, no further than a place.
+-- A run goes on, no further than a bit.
 abbrev Upto : ℕ → Progress → Type 0
-Upto n (At place) = place ≤ n
-Upto n (Refused status) = ⊥
+Upto n (At bit) = bit ≤ n
+Upto n (Refused status bit) = ⊥
 
--- a run that went on after a number has read it
-number-passed : (C : Type 0) (n : ℕ) (number : Number) (plane : List ℤ) (go : ℕ → Bool → ℕ → Run) → Upto n (onNumber number plane go .progress) →
-    ((size : ℕ) (minus : Bool) (next : ℕ) → number ≡ Read size minus next → Upto n (go size minus next .progress) → C) → C
-unfolding onNumber
-number-passed C n (Read size minus next) plane go upto each = each size minus next refl upto
-number-passed C n (Missing next) plane go upto each = absurd upto
-number-passed C n (TooLong next) plane go upto each = absurd upto
-
--- one that went on after a choice took one of its ways
+-- a run that went on after a choice took one of its ways
 choice-passed : (C : Type 0) (n : ℕ) (test : Bool) (a b : Run) → Upto n (cond test a b .progress) →
     (test ≡ true → Upto n (a .progress) → C) → (test ≡ false → Upto n (b .progress) → C) → C
 choice-passed C n true a b upto yes-a no-b = yes-a refl upto
@@ -56,127 +44,95 @@ unfolding goesOnAt going
 data-passed n next r upto = by (r .progress) upto
   where
     by : (progress : Progress) → Upto n (going progress (r .plane) (λ at. goesOn next (r .plane)) .progress) → next ≤ n
-    by (At place) h = h
-    by (Refused status) h = absurd h
+    by (At bit) h = h
+    by (Refused status bit) h = absurd h
 
--- a run that went on after prediction went on before it, since prediction leaves a refused run as it is
-prediction-passed : (n stride width height : ℕ) (progress : Progress) (plane : List ℤ) →
-    Upto n (prediction stride width height (record { progress = progress; plane = plane }) .progress) → Upto n progress
-prediction-passed n stride width height (At place) plane upto =
-    by (prediction stride width height (goesOn place plane) .progress) (prediction-sound (λ m. m ≡ place) stride width height (goesOn place plane) refl) upto
-  where
-    by : (progress : Progress) → Sound (λ m. m ≡ place) progress → Upto n progress → place ≤ n
-    by (At m) here h = omega (arith, here, h)
-    by (Refused status) here h = absurd h
-prediction-passed n stride width height (Refused status) plane upto =
-    rw (prediction-stays stride width height status plane) at upto
-
--- fewer bits reach into no more bytes
-sooner : (start bits more n : ℕ) → bits ≤ more → start + bytesOf more ≤ n → start + bytesOf bits ≤ n
-unfolding bytesOf
-sooner start bits more n fewer inside = omega arith
+-- one that went on after prediction went on before it, at the same bit
+prediction-passed : (n : ℕ) (b : CodeblockGrid) (progress : Progress) (plane : List ℤ) →
+    Upto n (going progress plane (λ bit. predictedBand b bit plane) .progress) → Upto n progress
+unfolding going predictedBand
+prediction-passed n b (At bit) plane upto =
+    choice-passed (bit ≤ n) n (prediction (b .stride) (b .subband .width) (b .subband .height) plane .fits) _ _ upto (λ t h. h) (λ t h. absurd h)
+prediction-passed n b (Refused status bit) plane upto = upto
 
 -- bytes that are used, followed by some (a) or by others (b)
 module _ (p : Parameters) (used a b : List ℕ) where
-  -- data that were read end within the bytes used, if the run went on there
-  data-within : (k q start size : ℕ) (plane : List ℤ) → Upto (length used) (checkedData p (used ++ a) k q start size plane .progress) → start + size ≤ length used
+  -- data that were read are the same whatever follows, if the run went on within the bytes used
+  data-same : (c : CodeblockGrid) (index bit size : ℕ) (plane : List ℤ) → bit % 8 ≡ 0 → Upto (8 * length used) (checkedData c (used ++ a) index bit size plane .progress) →
+      (bit ≤ 8 * length used) × (checkedData c (used ++ b) index bit size plane ≡ checkedData c (used ++ a) index bit size plane)
   unfolding checkedData subbandData
-  data-within k q start size plane upto =
-      choice-passed (start + size ≤ length used) (length used) (ltb 115 q) _ _ upto (λ t h. absurd h)
-      (λ t h. choice-passed (start + size ≤ length used) (length used) (ltb (length (used ++ a)) (start + size)) _ _ h (λ u g. absurd g)
-      (λ u g. data-passed (length used) (start + size) _ g))
-
-  -- such data are the same, whatever follows
-  data-same : (k q start size : ℕ) (plane : List ℤ) → start + size ≤ length used →
-      checkedData p (used ++ b) k q start size plane ≡ checkedData p (used ++ a) k q start size plane
-  unfolding checkedData subbandData
-  data-same k q start size plane inside =
-      rw (fits b, fits a, part b, part a)
+  data-same c index bit size plane whole upto =
+      let inside : bit + 8 * size ≤ 8 * length used =
+      choice-passed (bit + 8 * size ≤ 8 * length used) (8 * length used) (ltb 115 index) _ _ upto (λ t h. absurd h)
+      (λ t h. choice-passed (bit + 8 * size ≤ 8 * length used) (8 * length used) (ltb (length (used ++ a)) (bit / 8 + size)) _ _ h (λ u g. absurd g)
+      (λ u g. data-passed (8 * length used) (bit + 8 * size) _ g)) in
+      (omega arith, rw (fits b inside, fits a inside, part b inside, part a inside) refl)
     where
-      fits : (tail : List ℕ) → ltb (length (used ++ tail)) (start + size) ≡ false
-      fits tail = le-ltb (length (used ++ tail)) (start + size) (omega (arith, length-append used tail))
+      fits : (tail : List ℕ) → bit + 8 * size ≤ 8 * length used → ltb (length (used ++ tail)) (bit / 8 + size) ≡ false
+      fits tail inside = le-ltb (length (used ++ tail)) (bit / 8 + size) (omega (arith, length-append used tail))
 
-      part : (tail : List ℕ) → take size (drop start (used ++ tail)) ≡ take size (drop start used)
-      part tail =
-          ap (λ (l : List ℕ). take size l) (drop-append-le start used tail (omega arith))
-          ∙ take-append-le size (drop start used) tail (omega (arith, length-drop start used))
+      part : (tail : List ℕ) → bit + 8 * size ≤ 8 * length used → take size (drop (bit / 8) (used ++ tail)) ≡ take size (drop (bit / 8) used)
+      part tail inside =
+          ap (λ (l : List ℕ). take size l) (drop-append-le (bit / 8) used tail (omega arith))
+          ∙ take-append-le size (drop (bit / 8) used) tail (omega (arith, length-drop (bit / 8) used))
 
-  -- so is a number of a header
-  header-same : (start i size : ℕ) (minus : Bool) (next : ℕ) → start + bytesOf next ≤ length used →
-      unsigned (drop start (used ++ a)) (8 * length (drop start (used ++ a))) false i ≡ Read size minus next →
-      unsigned (drop start (used ++ b)) (8 * length (drop start (used ++ b))) false i ≡ Read size minus next
-  unfolding bytesOf
-  header-same start i size minus next inside read =
-      rw (drop-append-le start used b (omega arith))
-      (number-followed (drop start used) a b i size minus next (omega (arith, length-drop start used)) (rw (drop-append-le start used a (omega arith)) at read))
+  -- so is what a header announces, and the header ends within the bytes used
+  headed-same : (c : CodeblockGrid) (at : ℕ) (h : Header) (plane : List ℤ) → Announced (used ++ a) at h → Upto (8 * length used) (headed c (used ++ a) h plane .progress) →
+      EndsBy (8 * length used) h × (headed c (used ++ b) h plane ≡ headed c (used ++ a) h plane)
+  unfolding headed
+  headed-same c at (Skipped bit) plane known upto = (upto, refl)
+  headed-same c at (Coded index bit size) plane known upto = data-same c index bit size plane (known .0 .whole) upto
+  headed-same c at (RefusedHeader status bit) plane known upto = (upto, refl)
 
   -- so are a subband's header and data together
-  from-same : (k start : ℕ) (plane : List ℤ) → Upto (length used) (subbandFrom p (used ++ a) k start plane .progress) →
-      subbandFrom p (used ++ b) k start plane ≡ subbandFrom p (used ++ a) k start plane
+  from-same : (k at : ℕ) (plane : List ℤ) → Upto (8 * length used) (subbandFrom p (used ++ a) k at plane .progress) →
+      subbandFrom p (used ++ b) k at plane ≡ subbandFrom p (used ++ a) k at plane
   unfolding subbandFrom
-  from-same k start plane upto =
-      let Same : Type 0 = subbandFrom p (used ++ b) k start plane ≡ subbandFrom p (used ++ a) k start plane in
-      let rest = drop start (used ++ a) in
-      number-passed Same (length used) (unsigned rest (8 * length rest) false 0) plane _ upto
-      (λ size minus next read h.
-      choice-passed Same (length used) (eqb size 0) _ _ h
-      (λ t inside.
-      let none = eqb-true size 0 t in
-      no-data p (used ++ b) k start plane size minus next (header-same start 0 size minus next inside read) none
-      ∙ sym (no-data p (used ++ a) k start plane size minus next read none))
-      (λ t g. number-passed Same (length used) (unsigned rest (8 * length rest) false next) plane _ g
-      (λ q sign end index f.
-      let some = eqb-false size 0 t in
-      let inside = data-within k q (start + bytesOf end) size plane f in
-      let reach = unsigned-reach rest (8 * length rest) false next q sign end index in
-      let near : start + bytesOf next ≤ length used = sooner start next end (length used) (reach .onward) (omega arith) in
-      header-read p (used ++ b) k start plane size minus next (header-same start 0 size minus next near read) some q sign end
-      (header-same start next q sign end (omega arith) index)
-      ∙ data-same k q (start + bytesOf end) size plane inside
-      ∙ sym (header-read p (used ++ a) k start plane size minus next read some q sign end index))))
+  from-same k at plane upto =
+      let same = headed-same (codeblocksOf p k) at (headerAt (used ++ a) at) plane (header-announced (used ++ a) at) upto in
+      rw (header-followed used a b at (same .0)) (same .1)
 
   -- so is a subband, predicted or not
-  subband-same : (k start : ℕ) (plane : List ℤ) → Upto (length used) (subband p (used ++ a) k (goesOn start plane) .progress) →
-      subband p (used ++ b) k (goesOn start plane) ≡ subband p (used ++ a) k (goesOn start plane)
-  unfolding subband predictedSubband going
-  subband-same zero start plane upto = rw (from-same zero start plane (by (p .intra) upto))
+  subband-same : (k at : ℕ) (plane : List ℤ) → Upto (8 * length used) (subband p (used ++ a) k (goesOn at plane) .progress) →
+      subband p (used ++ b) k (goesOn at plane) ≡ subband p (used ++ a) k (goesOn at plane)
+  unfolding subband going
+  subband-same k at plane upto = rw (from-same k at plane (by (isPredicted p k) upto))
     where
       r : Run
-      r = subbandFrom p (used ++ a) zero start plane
+      r = subbandFrom p (used ++ a) k at plane
 
-      by : (intra : Bool) → Upto (length used) (cond intra (prediction (paddedSize (p .depth) (p .width)) (subbandOf p 0 .width) (subbandOf p 0 .height) r) r .progress) → Upto (length used) (r .progress)
-      by true h = prediction-passed (length used) _ _ _ (r .progress) (r .plane) h
+      by : (test : Bool) → Upto (8 * length used) (cond test (going (r .progress) (r .plane) (λ bit. predictedBand (codeblocksOf p k) bit (r .plane))) r .progress) → Upto (8 * length used) (r .progress)
+      by true h = prediction-passed (8 * length used) (codeblocksOf p k) (r .progress) (r .plane) h
       by false h = h
-  subband-same (suc k) start plane upto = from-same (suc k) start plane upto
 
   -- what follows a subband is the same, if each way on from it is
-  ended-same : (k start : ℕ) (r s : Run) (goA goB : ℕ → List ℤ → Unpacked) → Sound (Between start (used ++ a)) (r .progress) →
-      (Upto (length used) (r .progress) → s ≡ r) →
-      ((next : ℕ) (after : List ℤ) → next ≤ length (used ++ a) → goA next after .status ≡ 0 → Between next (used ++ a) (goA next after .place)) →
-      ((next : ℕ) (after : List ℤ) → next ≤ length (used ++ a) → goA next after .status ≡ 0 → goA next after .place ≤ length used → goB next after ≡ goA next after) →
+  ended-same : (k at : ℕ) (r s : Run) (goA goB : ℕ → List ℤ → Unpacked) → at ≤ 8 * length (used ++ a) → Lands (Ends (used ++ a) at) (r .progress) →
+      (Upto (8 * length used) (r .progress) → s ≡ r) →
+      ((bit : ℕ) (after : List ℤ) → bit ≤ 8 * length (used ++ a) → bit % 8 ≡ 0 → goA bit after .status ≡ 0 → Between (used ++ a) bit (goA bit after .place)) →
+      ((bit : ℕ) (after : List ℤ) → bit ≤ 8 * length (used ++ a) → bit % 8 ≡ 0 → goA bit after .status ≡ 0 → goA bit after .place ≤ length used → goB bit after ≡ goA bit after) →
       endedWith k (r .progress) (r .plane) goA .status ≡ 0 → endedWith k (r .progress) (r .plane) goA .place ≤ length used →
       endedWith k (s .progress) (s .plane) goB ≡ endedWith k (r .progress) (r .plane) goA
   unfolding endedWith
-  ended-same k start r s goA goB sound same onward each fine inside = by (r .progress) (r .plane) sound same fine inside
+  ended-same k at r s goA goB start lands same onward each fine inside = by (r .progress) (r .plane) lands same fine inside
     where
-      by : (progress : Progress) (plane : List ℤ) → Sound (Between start (used ++ a)) progress →
-          (Upto (length used) progress → s ≡ record { progress = progress; plane = plane }) →
+      by : (progress : Progress) (plane : List ℤ) → Lands (Ends (used ++ a) at) progress →
+          (Upto (8 * length used) progress → s ≡ record { progress = progress; plane = plane }) →
           endedWith k progress plane goA .status ≡ 0 → endedWith k progress plane goA .place ≤ length used →
           endedWith k (s .progress) (s .plane) goB ≡ endedWith k progress plane goA
-      by (At next) plane here alike ok least =
-          let further = onward next plane (here .1) ok in
-          rw (alike (omega (arith, further .0, least))) (each next plane (here .1) ok least)
-      by (Refused status) plane here alike ok least = absurd (here ok)
+      by (At bit) plane here alike ok least =
+          let further = onward bit plane (here .within start) (here .whole) ok in
+          rw (alike (omega (arith, further .0, least))) (each bit plane (here .within start) (here .whole) ok least)
+      by (Refused status bit) plane here alike ok least = absurd (here ok)
 
   -- so are all subbands
-  subbands-same : (n k start : ℕ) (plane : List ℤ) → start ≤ length (used ++ a) → subbandsFrom p (used ++ a) n k start plane .status ≡ 0 →
-      subbandsFrom p (used ++ a) n k start plane .place ≤ length used → subbandsFrom p (used ++ b) n k start plane ≡ subbandsFrom p (used ++ a) n k start plane
+  subbands-same : (n k at : ℕ) (plane : List ℤ) → at ≤ 8 * length (used ++ a) → at % 8 ≡ 0 → subbandsFrom p (used ++ a) n k at plane .status ≡ 0 →
+      subbandsFrom p (used ++ a) n k at plane .place ≤ length used → subbandsFrom p (used ++ b) n k at plane ≡ subbandsFrom p (used ++ a) n k at plane
   unfolding subbandsFrom
-  subbands-same zero k start plane here fine inside = refl
-  subbands-same (suc n) k start plane here fine inside =
-      ended-same k start (subband p (used ++ a) k (goesOn start plane)) (subband p (used ++ b) k (goesOn start plane))
-      (subbandsFrom p (used ++ a) n (suc k)) (subbandsFrom p (used ++ b) n (suc k)) (subband-sound p (used ++ a) k start plane here)
-      (subband-same k start plane) (used-between p (used ++ a) n (suc k)) (subbands-same n (suc k)) fine inside
+  subbands-same zero k at plane here whole fine inside = refl
+  subbands-same (suc n) k at plane here whole fine inside =
+      ended-same k at (subband p (used ++ a) k (goesOn at plane)) (subband p (used ++ b) k (goesOn at plane))
+      (subbandsFrom p (used ++ a) n (suc k)) (subbandsFrom p (used ++ b) n (suc k)) here (subband-lands p (used ++ a) k at plane)
+      (subband-same k at plane) (used-between p (used ++ a) n (suc k)) (subbands-same n (suc k)) fine inside
 
   -- so is the job, if it uses no more than those bytes
   job-same : (plane : List ℤ) → unpacked p (used ++ a) plane .status ≡ 0 → unpacked p (used ++ a) plane .place ≤ length used →
@@ -185,7 +141,7 @@ module _ (p : Parameters) (used a b : List ℕ) where
       let passed = accepted-read p (used ++ a) plane fine in
       let read = job-read p (used ++ a) plane passed in
       job-read p (used ++ b) plane passed
-      ∙ subbands-same (subbandCount (p .depth)) 0 0 (zerosLike plane) (omega arith) (rw read at fine) (rw read at inside)
+      ∙ subbands-same (subbandCount (p .depth)) 0 0 (zerosLike plane) (omega arith) (omega arith) (rw read at fine) (rw read at inside)
       ∙ sym read
 
 -- On acceptance, the bytes used, followed by anything, are unpacked the same.
@@ -205,8 +161,3 @@ trailing-free p bytes other plane fine same =
     sym (ap (λ (l : List ℕ). unpacked p l plane) (take-append-drop n other))
     ∙ ap (λ (l : List ℕ). unpacked p (l ++ drop n other) plane) same
     ∙ followed-by-anything p bytes (drop n other) plane fine
-
--- So an accepted component, with anything appended to its bytes, is unpacked the same.
-pub appended : (p : Parameters) (bytes tail : List ℕ) (plane : List ℤ) → unpacked p bytes plane .status ≡ 0 → unpacked p (bytes ++ tail) plane ≡ unpacked p bytes plane
-appended p bytes tail plane fine =
-    trailing-free p bytes (bytes ++ tail) plane fine (take-append-le (unpacked p bytes plane .place) bytes tail (used-at-most p bytes plane fine))

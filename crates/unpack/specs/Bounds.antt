@@ -1,29 +1,21 @@
--- The code's own forms: where codeblocks stand in the plane, parameters that passed the checks, and the number of a refusal. No definition of
--- the format rests on them.
-use Prim.Native.Nat.{ℕ, _+_, _*_, _≤_}
+-- The code's own forms: parameters that passed the checks, subbands that hold zeros, headers whose data can be counted, and the status of
+-- a run. No definition of the format
+-- rests on them.
+use Prim.Native.Nat.{ℕ, _+_, _*_, _≤_, _<_, _^_}
 use mathlib.Core.Path.{_≡_}
-use mathlib.Core.List.{List}
-use lib.IntN.{ℤ}
-use lib.ListN.{length, getD}
 use mathlib.Core.Bool.{true}
+use mathlib.Core.List.{List}
+use lib.IntN.{ℤ, pos}
+use lib.ListN.{getD}
 use Rattle.component.specs.Checks.{sizesInRange, depthInRange, codeblocksInRange}
-use Rattle.component.specs.Sizes.{paddedSize}
+use Rattle.component.specs.Subbands.{subbandCount, Lies}
 use Rattle.component.specs.declared.parameters.Parameters.{Parameters}
-use Rattle.coefficients.specs.declared.progress.Progress.{Progress}
-use Rattle.coefficients.specs.declared.progress.Progress.the-variants.{At, Refused}
-use Rattle.unpack.specs.Subband.{subbandOf}
-use Rattle.unpack.specs.declared.codeblocks.Codeblocks.{Codeblocks}
-
--- The subband lies in a plane of rows a stride apart, and has codeblocks.
-pub record Placed (c : Codeblocks) (plane : List ℤ) : Type 0 where
-  pub across-least : 1 ≤ c .across
-  pub across-most : c .across ≤ 255
-  pub down-least : 1 ≤ c .down
-  pub down-most : c .down ≤ 255
-  pub wide : c .subband .left + c .subband .width ≤ c .stride
-  pub narrow : c .stride ≤ 4096
-  pub tall : c .subband .top + c .subband .height ≤ 4096
-  pub inside : (c .subband .top + c .subband .height) * c .stride ≤ length plane
+use Rattle.coefficients.specs.declared.reading.Progress.{Progress}
+use Rattle.coefficients.specs.declared.reading.Progress.the-variants.{At, Refused}
+use Rattle.codeblocks.specs.declared.CodeblockGrid.{CodeblockGrid}
+use Rattle.unpack.specs.Subband.{codeblocksOf}
+use Rattle.unpack.specs.declared.header.Header.{Header}
+use Rattle.unpack.specs.declared.header.Header.the-variants.{Skipped, Coded, Refused as RefusedHeader}
 
 -- The parameters of a component that has passed the checks of unpack.
 pub record Checked (p : Parameters) : Type 0 where
@@ -31,17 +23,21 @@ pub record Checked (p : Parameters) : Type 0 where
   pub depth : depthInRange p ≡ true
   pub codeblocks : codeblocksInRange p ≡ true
 
--- The codeblocks of subband k.
-unfoldable pub codeblocksOf : Parameters → ℕ → Codeblocks
-codeblocksOf p k =
-    record {
-      stride = paddedSize (p .depth) (p .width);
-      subband = subbandOf p k;
-      across = getD (p .«codeblocks_across») (subbandOf p k .level) 0;
-      down = getD (p .«codeblocks_down») (subbandOf p k .level) 0;
-    }
+-- The entries where a subband stands hold zeros.
+pub record ClearBand (b : CodeblockGrid) (plane : List ℤ) : Type 0 where
+  pub each : (row column : ℕ) → Lies (b .subband) row column → getD plane (row * b .stride + column) (pos 0) ≡ pos 0
+
+-- So do those of subband k and of all that follow it.
+pub record ClearBandsFrom (p : Parameters) (k : ℕ) (plane : List ℤ) : Type 0 where
+  pub each : (j : ℕ) → k ≤ j → j < subbandCount (p .depth) → ClearBand (codeblocksOf p j) plane
+
+-- The bits of a header's data can all be counted.
+abbrev pub SoundHeader : Header → Type 0
+SoundHeader (Skipped bit) = Unit {0}
+SoundHeader (Coded index bit size) = (bit < 2 ^ 62) × (size < 2 ^ 32)
+SoundHeader (RefusedHeader status bit) = Unit {0}
 
 -- The number that a refused run carries.
-abbrev pub statusOf : Progress → ℕ
-statusOf (At next) = 0
-statusOf (Refused status) = status
+abbrev pub progressStatus : Progress → ℕ
+progressStatus (At bit) = 0
+progressStatus (Refused status bit) = status

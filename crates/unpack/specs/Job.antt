@@ -1,5 +1,5 @@
 -- Document 01, "Refusal numbers": what unpack answers and what it leaves in its plane, for every input.
-use Prim.Native.Nat.{ℕ, zero, suc}
+use Prim.Native.Nat.{ℕ, zero, suc, _/_}
 use mathlib.Core.Bool.{cond}
 use mathlib.Core.List.{List}
 use lib.Dec.{eqb}
@@ -12,8 +12,8 @@ use Rattle.component.specs.declared.parameters.Parameters.{Parameters}
 use Rattle.component.specs.declared.parameters.Answer.{Answer}
 use Rattle.component.specs.declared.parameters.Job.the-variants.{Unpack}
 use Rattle.coefficients.specs.Reading.{goesOn}
-use Rattle.coefficients.specs.declared.progress.Progress.{Progress}
-use Rattle.coefficients.specs.declared.progress.Progress.the-variants.{At, Refused}
+use Rattle.coefficients.specs.declared.reading.Progress.{Progress}
+use Rattle.coefficients.specs.declared.reading.Progress.the-variants.{At, Refused}
 use Rattle.unpack.specs.Subband.{subband}
 
 -- What a call of unpack gives: its answer, and what the coefficient plane holds after it.
@@ -26,19 +26,19 @@ pub record Unpacked : Type 0 where
 unfoldable pub outcome : Answer → List ℤ → Unpacked
 outcome answer coefficients = record { status = answer .status; place = answer .place; coefficients = coefficients }
 
--- After subband k: accepted so far, or refused with the subband as its place: "Zeros are written to each plane the call may write."
+-- After subband k: accepted so far, or refused with the subband as its place, "Subbands count from 0 in stream order": "Zeros are written to each plane the call may write."
 unfoldable pub endedWith : ℕ → Progress → List ℤ → (ℕ → List ℤ → Unpacked) → Unpacked
-endedWith k (At next) plane go = go next plane
-endedWith k (Refused status) plane go = record { status = status; place = k; coefficients = zerosLike plane }
+endedWith k (At bit) plane go = go bit plane
+endedWith k (Refused status bit) plane go = record { status = status; place = k; coefficients = zerosLike plane }
 
 module _ (p : Parameters) (bytes : List ℕ) where
-  -- "6 to 9 arise in reading order, the earliest ending the call": n subbands from subband k on, which starts at a byte. "bytes used" ends
-  -- with the last.
+  -- "6 to 9 arise in reading order, the earliest ending the call": n subbands from subband k on, which starts at a bit. "bytes used" are
+  -- those up to the end of the last, which is the end of a byte.
   unfoldable pub subbandsFrom : ℕ → ℕ → ℕ → List ℤ → Unpacked
-  subbandsFrom zero k start plane = record { status = 0; place = start; coefficients = plane }
-  subbandsFrom (suc n) k start plane =
-      let r = subband p bytes k (goesOn start plane) in
-      endedWith k (r .progress) (r .plane) (λ next after. subbandsFrom n (suc k) next after)
+  subbandsFrom zero k at plane = record { status = 0; place = at / 8; coefficients = plane }
+  subbandsFrom (suc n) k at plane =
+      let r = subband p bytes k (goesOn at plane) in
+      endedWith k (r .progress) (r .plane) (λ bit after. subbandsFrom n (suc k) bit after)
 
   -- "Checks run in this order"; then the subbands in stream order, over zeros, which stay where "all values are 0" and where a flag "leaves
   -- the block zero".

@@ -1,5 +1,5 @@
-pub mod Codeblocks
-pub mod Prediction
+-- Document 01
 pub mod Subband
 pub mod Job
+-- The code's own forms
 pub mod Bounds

@@ -1,7 +1,7 @@
--- Document 01, "One subband": its header and its data. Here a run goes on at a byte. The plane that a subband starts with holds zeros where
--- the subband stands: what is not read stays zero.
+-- Document 01, "One subband": its header, its data and its prediction. A run goes on at a bit, counted from the start of the bytes. The plane
+-- that a subband starts with holds zeros where the subband stands: what is not read stays zero.
 use Prim.Native.Nat.{ℕ, zero, suc, _+_, _*_, _/_}
-use mathlib.Core.Bool.{false, cond}
+use mathlib.Core.Bool.{Bool, false, cond}
 use mathlib.Core.List.{List}
 use lib.Dec.{eqb, ltb}
 use lib.IntN.{ℤ}
@@ -10,53 +10,94 @@ use Rattle.component.specs.Sizes.{paddedSize}
 use Rattle.component.specs.Subbands.{subbandAt}
 use Rattle.component.specs.declared.parameters.Parameters.{Parameters}
 use Rattle.component.specs.declared.subbands.Subband.{Subband}
-use Rattle.exp_golomb.specs.Codes.{unsigned}
-use Rattle.coefficients.specs.Reading.{Run, goesOn, stops, going, onNumber}
-use Rattle.unpack.specs.Codeblocks.{codeblocks}
-use Rattle.unpack.specs.Prediction.{prediction}
+use Rattle.exp_golomb.specs.Codes.{statusOf, nextOf, unsigned}
+use Rattle.exp_golomb.specs.declared.codes.Number.{Number}
+use Rattle.exp_golomb.specs.declared.codes.Number.the-variants.{Read, Missing, TooLong}
+use Rattle.coefficients.specs.Quantiser.{dequantise}
+use Rattle.coefficients.specs.Reading.{Run, goesOn, stops, going}
+use Rattle.codeblocks.specs.Codeblocks.{codeblocks}
+use Rattle.codeblocks.specs.declared.CodeblockGrid.{CodeblockGrid}
+use Rattle.prediction.specs.Prediction.{prediction}
+use Rattle.unpack.specs.declared.header.Header.{Header}
+use Rattle.unpack.specs.declared.header.Header.the-variants.{Skipped, Coded, Refused}
 
--- "go to the boundary": the bytes that bits reach into
-unfoldable pub bytesOf : ℕ → ℕ
-bytesOf bits = (bits + 7) / 8
+-- "go to the boundary": the first bit of a byte, at a bit or after it. "Skipped bits may have any value": none is looked at.
+unfoldable pub boundary : ℕ → ℕ
+boundary bit = (bit + 7) / 8 * 8
+
+-- "Only a number that was read goes on; anything else ends the subband": its number, and the bits that it took
+abbrev pub refusedAt : Number → Header
+refusedAt number = Refused (statusOf number) (nextOf number)
+
+unfoldable pub onRead : Number → (ℕ → ℕ → Header) → Header
+onRead (Read size minus next) go = go size next
+onRead (Missing next) go = refusedAt (Missing next)
+onRead (TooLong next) go = refusedAt (TooLong next)
+
+-- "Start on a byte boundary. Read the length. If 0, go to the boundary; all values are 0. Otherwise read the quantiser index, go to the
+-- boundary"
+-- Each starts on one: the first at bit 0, the next where the one before it ends.
+unfoldable pub headerAt : List ℕ → ℕ → Header
+headerAt bytes at =
+    onRead (unsigned bytes (8 * length bytes) false at)
+    (λ size next.
+    cond (eqb size 0) (Skipped (boundary next))
+    (onRead (unsigned bytes (8 * length bytes) false next) (λ index end. Coded index (boundary end) size)))
 
 -- "The next subband starts where the length ends, however few bits were used."
 unfoldable pub goesOnAt : ℕ → Run → Run
-goesOnAt next r = going (r .progress) (r .plane) (λ at. goesOn next (r .plane))
+goesOnAt bit r = going (r .progress) (r .plane) (λ at. goesOn bit (r .plane))
 
--- Subband k of the component.
+-- The codeblocks of a subband, in a plane and from bytes.
+module _ (b : CodeblockGrid) (bytes : List ℕ) where
+  -- "Blocks follow": the data, of a stated length, from a bit on
+  unfoldable pub subbandData : ℕ → ℕ → ℕ → List ℤ → Run
+  subbandData index bit size plane =
+      goesOnAt (bit + 8 * size)
+      (codeblocks (take size (drop (bit / 8) bytes)) (8 * size) bit (dequantise index) b (goesOn 0 plane))
+
+  -- "check 8, then check that length bytes remain (6)"
+  unfoldable pub checkedData : ℕ → ℕ → ℕ → List ℤ → Run
+  checkedData index bit size plane =
+      cond (ltb 115 index) (stops 8 bit plane)
+      (cond (ltb (length bytes) (bit / 8 + size)) (stops 6 (8 * length bytes) plane) (subbandData index bit size plane))
+
+  -- what a header announces; where "all values are 0" the plane stays as it is
+  unfoldable pub headed : Header → List ℤ → Run
+  headed (Skipped bit) plane = goesOn bit plane
+  headed (Coded index bit size) plane = checkedData index bit size plane
+  headed (Refused status bit) plane = stops status bit plane
+
+-- "If intra, level 0 is then predicted in raster order, skipped or not"; 9 where a predicted value does not fit
+unfoldable pub predictedBand : CodeblockGrid → ℕ → List ℤ → Run
+predictedBand b bit plane =
+    let p = prediction (b .stride) (b .subband .width) (b .subband .height) plane in
+    cond (p .fits) (goesOn bit (p .plane)) (stops 9 bit (p .plane))
+
+unfoldable pub isPredicted : Parameters → ℕ → Bool
+isPredicted p zero = p .intra
+isPredicted p (suc k) = false
+
+-- Subband k of the component, and its codeblocks.
 abbrev pub subbandOf : Parameters → ℕ → Subband
 subbandOf p k = subbandAt (p .depth) (paddedSize (p .depth) (p .width)) (paddedSize (p .depth) (p .height)) k
 
+unfoldable pub codeblocksOf : Parameters → ℕ → CodeblockGrid
+codeblocksOf p k =
+    record {
+      stride = paddedSize (p .depth) (p .width);
+      subband = subbandOf p k;
+      across = getD (p .«codeblocks_across») (subbandOf p k .level) 0;
+      down = getD (p .«codeblocks_down») (subbandOf p k .level) 0;
+    }
+
 module _ (p : Parameters) (bytes : List ℕ) where
-  -- "Blocks follow": the data of a stated length, from byte `start` on
-  unfoldable pub subbandData : ℕ → ℕ → ℕ → ℕ → List ℤ → Run
-  subbandData k q start size plane =
-      goesOnAt (start + size)
-      (codeblocks (take size (drop start bytes)) (8 * size) q (paddedSize (p .depth) (p .width)) (subbandOf p k)
-      (getD (p .«codeblocks_across») (subbandOf p k .level) 0) (getD (p .«codeblocks_down») (subbandOf p k .level) 0)
-      (goesOn 0 plane))
-
-  -- "check 8, then check that length bytes remain (6)"
-  unfoldable pub checkedData : ℕ → ℕ → ℕ → ℕ → List ℤ → Run
-  checkedData k q start size plane =
-      cond (ltb 115 q) (stops 8 plane) (cond (ltb (length bytes) (start + size)) (stops 6 plane) (subbandData k q start size plane))
-
-  -- "Start on a byte boundary. Read the length. If 0, go to the boundary; all values are 0. Otherwise read the quantiser index, go to the
-  -- boundary"
   unfoldable pub subbandFrom : ℕ → ℕ → List ℤ → Run
-  subbandFrom k start plane =
-      let rest = drop start bytes in
-      onNumber (unsigned rest (8 * length rest) false 0) plane
-      (λ size minus next.
-      cond (eqb size 0) (goesOn (start + bytesOf next) plane)
-      (onNumber (unsigned rest (8 * length rest) false next) plane
-      (λ q sign after. checkedData k q (start + bytesOf after) size plane)))
-
-  -- "If intra, level 0 is then predicted in raster order, skipped or not"
-  unfoldable pub predictedSubband : ℕ → Run → Run
-  predictedSubband zero r =
-      cond (p .intra) (prediction (paddedSize (p .depth) (p .width)) (subbandOf p 0 .width) (subbandOf p 0 .height) r) r
-  predictedSubband (suc k) r = r
+  subbandFrom k at plane = headed (codeblocksOf p k) bytes (headerAt bytes at) plane
 
   unfoldable pub subband : ℕ → Run → Run
-  subband k r = going (r .progress) (r .plane) (λ start. predictedSubband k (subbandFrom k start (r .plane)))
+  subband k r =
+      going (r .progress) (r .plane)
+      (λ at.
+      let s = subbandFrom k at (r .plane) in
+      cond (isPredicted p k) (going (s .progress) (s .plane) (λ bit. predictedBand (codeblocksOf p k) bit (s .plane))) s)

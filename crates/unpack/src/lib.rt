@@ -1,6 +1,5 @@
 // Document 01, "One subband": the unpack job, from bytes to coefficients.
-pub mod codeblocks;
-pub mod prediction;
+pub mod header;
 pub mod subbands;
 
 ghost use mathlib.Core.Path.{_≡_};
@@ -8,16 +7,18 @@ ghost use lib.ListN.{length};
 ghost use Rattle.component.specs.Checks.{areaOf};
 ghost use Rattle.component.specs.Subbands.{subbandCount};
 ghost use Rattle.unpack.specs.Job.{outcome, subbandsFrom, unpacked};
-ghost use Rattle.unpack.specs.Bounds.{Checked, statusOf};
+ghost use Rattle.unpack.specs.Bounds.{Checked, ClearBandsFrom, progressStatus};
 use crate::subbands::read_subband;
 use base::plane::zero;
-use coefficients::progress::Progress;
+use base::status::ACCEPTED;
+use coefficients::reading::Progress;
 use component::checks::refusal;
 use component::parameters::Answer;
 use component::parameters::Job;
 use component::parameters::Lengths;
 use component::parameters::Parameters;
 use component::subbands::subband_count;
+use lookups::lookup_table;
 
 // Reads the coefficients of a component from its bytes. Refusals 1, 2, 4 and 5 leave the plane as it was; 6 to 9 leave zeros, with the
 // subband as their place; the place of an acceptance is the number of bytes used.
@@ -30,45 +31,46 @@ pub fn unpack(p: Parameters, bytes: &[u8], coefficients: &mut [i32]) -> Answer
         samples: 0,
     };
     let status = refusal(Job::Unpack, p, lengths);
-    if status != 0 {
+    if status != ACCEPTED {
         return Answer { status, place: 0 };
     }
     zero(coefficients);
     read_subbands(p, bytes, coefficients)
 }
 
-// Reads the subbands in stream order into a plane.
+// Reads the subbands in stream order into a plane of zeros.
 fn read_subbands(p: Parameters, bytes: &[u8], plane: &mut [i32]) -> Answer
-    requires { ⌜ Checked p × (length (now plane) ≡ areaOf p) ⌝ }
+    requires { ⌜ Checked p × (length (now plane) ≡ areaOf p) × ClearBandsFrom p 0 (now plane) ⌝ }
     ensures { λ r. ⌜ outcome r (now (plane .exit)) ≡ subbandsFrom p (now (bytes .entry)) (subbandCount (p .depth)) 0 0 (now (plane .entry)) ⌝ }
 {
+    let table = lookup_table();
     let count = subband_count(p.depth as usize);
-    let mut start = 0;
+    let mut at = 0;
     let mut k = 0;
     while k < count {
-        let progress = read_subband(plane, p, k, bytes, start);
-        let Progress::At { next } = progress else {
+        let progress = read_subband(plane, p, k, bytes, at, &table);
+        let Progress::At { bit } = progress else {
             zero(plane);
             return Answer {
-                status: refusal_status(progress),
+                status: progress_status(progress),
                 place: k,
             };
         };
-        start = next;
+        at = bit;
         k += 1;
     }
     Answer {
-        status: 0,
-        place: start,
+        status: ACCEPTED,
+        place: at / 8,
     }
 }
 
 // The number of a refusal, or 0.
-fn refusal_status(progress: Progress) -> u32
-    ensures { λ r. ⌜ r ≡ statusOf progress ⌝ }
+fn progress_status(progress: Progress) -> u32
+    ensures { λ r. ⌜ r ≡ progressStatus progress ⌝ }
 {
     match progress {
-        Progress::At { next: _ } => 0,
-        Progress::Refused { status } => status,
+        Progress::At { bit: _ } => ACCEPTED,
+        Progress::Refused { status, bit: _ } => status,
     }
 }

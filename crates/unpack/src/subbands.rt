@@ -1,38 +1,52 @@
-// Document 01, "One subband": the header, the data, and prediction, subband after subband.
+// Document 01, "One subband": header, data, prediction.
 ghost use mathlib.Core.Path.{_≡_};
-ghost use Prim.Native.Nat.{_+_, _≤_, _<_};
+ghost use Prim.Native.Nat.{_+_, _/_, _≤_, _<_, _^_};
 ghost use lib.ListN.{length};
-ghost use Rattle.component.specs.Checks.{areaOf};
 ghost use Rattle.component.specs.Subbands.{subbandCount};
+ghost use Rattle.lookups.specs.Lookups.{KnowsCodes};
 ghost use Rattle.coefficients.specs.Reading.{goesOn};
-ghost use Rattle.coefficients.specs.Bounds.{after};
-ghost use Rattle.unpack.specs.Subband.{bytesOf, subbandData, checkedData, subbandFrom, subband};
-ghost use Rattle.unpack.specs.Bounds.{Checked, codeblocksOf};
-use crate::codeblocks::Codeblocks;
-use crate::codeblocks::read_codeblocks;
-use crate::prediction::predict;
-use coefficients::progress::Progress;
+ghost use Rattle.coefficients.specs.Values.{after};
+ghost use Rattle.codeblocks.specs.Blocks.{Placed};
+ghost use Rattle.component.specs.Checks.{areaOf};
+ghost use Rattle.unpack.specs.Subband.{codeblocksOf, subbandData, checkedData, headed, predictedBand, subband};
+ghost use Rattle.unpack.specs.Bounds.{Checked, ClearBand, SoundHeader};
+use crate::header::Header;
+use crate::header::read_header;
+use base::limits::QUANTISER_MOST;
+use base::status::BYTES_END_EARLY;
+use base::status::QUANTISER_REFUSED;
+use base::status::VALUE_OUT_OF_RANGE;
+use codeblocks::CodeblockGrid;
+use codeblocks::Position;
+use codeblocks::read_codeblocks;
 use coefficients::quantiser::quantiser_of;
+use coefficients::quantiser::small_values;
+use coefficients::reading::Cursor;
+use coefficients::reading::Progress;
 use component::parameters::Parameters;
 use component::sizes::padded_size;
 use component::subbands::subband_at;
-use exp_golomb::codes::Number;
-use exp_golomb::codes::read_unsigned;
-use exp_golomb::codes::status;
+use prediction::predict;
 
-// Reads subband k from a byte on, and predicts it where the rules say so. Goes on at the byte after it.
+// Reads subband k from a bit on, and predicts it where the rules say so. Goes on at the bit after it.
 pub fn read_subband(
     plane: &mut [i32],
     p: Parameters,
     k: usize,
     bytes: &[u8],
-    start: usize,
+    at: usize,
+    table: &[u16; 256],
 ) -> Progress
-    requires { ⌜ Checked p × (k < subbandCount (p .depth)) × (start ≤ length (now bytes)) × (length (now plane) ≡ areaOf p) ⌝ }
-    ensures read { λ r. ⌜ after r (now (plane .exit)) ≡ subband p (now (bytes .entry)) k (goesOn start (now (plane .entry))) ⌝ }
+    requires { ⌜
+        Checked p × (k < subbandCount (p .depth)) × (length (now plane) ≡ areaOf p)
+        × ClearBand (codeblocksOf p k) (now plane) × (at < 2 ^ 61) × KnowsCodes (now table)
+        ⌝ }
+    ensures { λ r. ⌜ after r (now (plane .exit)) ≡ subband p (now (bytes .entry)) k (goesOn at (now (plane .entry))) ⌝ }
 {
-    let progress = read_header(plane, p, k, bytes, start);
-    let Progress::At { next } = progress else {
+    let blocks = codeblocks_of(p, k);
+    let header = read_header(bytes, at);
+    let progress = read_headed(plane, blocks, header, bytes, table);
+    let Progress::At { bit } = progress else {
         return progress;
     };
     if k != 0 {
@@ -41,103 +55,115 @@ pub fn read_subband(
     if !p.intra {
         return progress;
     }
-    let blocks = codeblocks_of(p, k);
-    let s = blocks.subband;
-    predict(plane, blocks.stride, s.width, s.height, next)
+    predict_band(plane, blocks, bit)
 }
 
-// Reads the header of subband k, and its data.
-fn read_header(plane: &mut [i32], p: Parameters, k: usize, bytes: &[u8], start: usize) -> Progress
-    requires { ⌜ Checked p × (k < subbandCount (p .depth)) × (start ≤ length (now bytes)) × (length (now plane) ≡ areaOf p) ⌝ }
-    ensures { λ r. ⌜ after r (now (plane .exit)) ≡ subbandFrom p (now (bytes .entry)) k start (now (plane .entry)) ⌝ }
+// Reads what a header announces.
+fn read_headed(
+    plane: &mut [i32],
+    blocks: CodeblockGrid,
+    header: Header,
+    bytes: &[u8],
+    table: &[u16; 256],
+) -> Progress
+    requires { ⌜ Placed blocks (now plane) × ClearBand blocks (now plane) × SoundHeader header × KnowsCodes (now table) ⌝ }
+    ensures { λ r. ⌜ after r (now (plane .exit)) ≡ headed blocks (now (bytes .entry)) header (now (plane .entry)) ⌝ }
 {
-    let rest = &bytes[start..];
-    let number = read_unsigned(rest, 18446744073709551615, false, 0);
-    let Number::Read {
-        size,
-        minus: _,
-        next,
-    } = number
-    else {
-        return Progress::Refused {
-            status: status(number),
-        };
-    };
-    if size == 0 {
-        return Progress::At {
-            next: start + bytes_of(next),
-        };
+    match header {
+        Header::Skipped { bit } => Progress::At { bit },
+        Header::Coded { index, bit, size } => {
+            read_checked(plane, blocks, index, bit, size, bytes, table)
+        }
+        Header::Refused { status, bit } => Progress::Refused { status, bit },
     }
-    let number2 = read_unsigned(rest, 18446744073709551615, false, next);
-    let Number::Read {
-        size: index,
-        minus: _,
-        next: end,
-    } = number2
-    else {
-        return Progress::Refused {
-            status: status(number2),
-        };
-    };
-    let from = start + bytes_of(end);
-    read_checked(plane, p, k, index, bytes, from, size as usize)
-}
-
-// How many bytes bits reach into.
-fn bytes_of(bits: usize) -> usize
-    requires { ⌜ bits ≤ 4096 ⌝ }
-    ensures { λ r. ⌜ r ≡ bytesOf bits ⌝ }
-{
-    (bits + 7) / 8
 }
 
 // Checks the quantiser index, and then that the stated length remains; reads the data.
 fn read_checked(
     plane: &mut [i32],
-    p: Parameters,
-    k: usize,
+    blocks: CodeblockGrid,
     index: u32,
-    bytes: &[u8],
-    start: usize,
+    bit: usize,
     size: usize,
+    bytes: &[u8],
+    table: &[u16; 256],
 ) -> Progress
-    requires { ⌜ Checked p × (k < subbandCount (p .depth)) × (start ≤ length (now bytes)) × (size < 4294967296) × (length (now plane) ≡ areaOf p) ⌝ }
-    ensures { λ r. ⌜ after r (now (plane .exit)) ≡ checkedData p (now (bytes .entry)) k index start size (now (plane .entry)) ⌝ }
+    requires { ⌜ Placed blocks (now plane) × ClearBand blocks (now plane) × (bit < 2 ^ 62) × (size < 2 ^ 32) × KnowsCodes (now table) ⌝ }
+    ensures { λ r. ⌜ after r (now (plane .exit)) ≡ checkedData blocks (now (bytes .entry)) index bit size (now (plane .entry)) ⌝ }
 {
-    if 115 < index {
-        return Progress::Refused { status: 8 };
+    if QUANTISER_MOST < index {
+        return Progress::Refused {
+            status: QUANTISER_REFUSED,
+            bit,
+        };
     }
-    if bytes.len() < start + size {
-        return Progress::Refused { status: 6 };
+    if bytes.len() < bit / 8 + size {
+        return Progress::Refused {
+            status: BYTES_END_EARLY,
+            bit: 8 * bytes.len(),
+        };
     }
-    read_data(plane, p, k, index, bytes, start, size)
+    read_data(plane, blocks, index, bit, size, bytes, table)
 }
 
-// Reads the codeblocks of subband k from its data, of a stated length.
+// Reads the codeblocks from data of a stated length. Goes on where the length ends.
 fn read_data(
     plane: &mut [i32],
-    p: Parameters,
-    k: usize,
+    blocks: CodeblockGrid,
     index: u32,
-    bytes: &[u8],
-    start: usize,
+    bit: usize,
     size: usize,
+    bytes: &[u8],
+    table: &[u16; 256],
 ) -> Progress
-    requires { ⌜ Checked p × (k < subbandCount (p .depth)) × (index ≤ 115) × (start + size ≤ length (now bytes)) × (size < 4294967296) × (length (now plane) ≡ areaOf p) ⌝ }
-    ensures { λ r. ⌜ after r (now (plane .exit)) ≡ subbandData p (now (bytes .entry)) k index start size (now (plane .entry)) ⌝ }
+    requires { ⌜
+        Placed blocks (now plane) × ClearBand blocks (now plane) × (index ≤ 115) × (bit < 2 ^ 62) × (size < 2 ^ 32)
+        × (bit / 8 + size ≤ length (now bytes)) × KnowsCodes (now table)
+        ⌝ }
+    ensures { λ r. ⌜ after r (now (plane .exit)) ≡ subbandData blocks (now (bytes .entry)) index bit size (now (plane .entry)) ⌝ }
 {
+    let start = bit / 8;
     let end = start + size;
     let data = &bytes[start..end];
-    let blocks = codeblocks_of(p, k);
-    let progress = read_codeblocks(plane, blocks, data, 8 * size, 0, quantiser_of(index));
-    let Progress::At { next: _ } = progress else {
+    let cursor = Cursor {
+        bit: 0,
+        end: 8 * size,
+        stated: true,
+        origin: bit,
+    };
+    let first = Position {
+        begun: 0,
+        values: 0,
+    };
+    let q = quantiser_of(index);
+    let small = small_values(q);
+    let reached = read_codeblocks(plane, blocks, first, data, cursor, q, table, &small);
+    let progress = reached.progress;
+    let Progress::At { bit: _ } = progress else {
         return progress;
     };
-    Progress::At { next: end }
+    Progress::At {
+        bit: bit + 8 * size,
+    }
+}
+
+// Predicts the values of a subband at the top left of the plane. Reading goes on where it was.
+fn predict_band(plane: &mut [i32], blocks: CodeblockGrid, bit: usize) -> Progress
+    requires { ⌜ Placed blocks (now plane) ⌝ }
+    ensures { λ r. ⌜ after r (now (plane .exit)) ≡ predictedBand blocks bit (now (plane .entry)) ⌝ }
+{
+    let s = blocks.subband;
+    if predict(plane, blocks.stride, s.width, s.height) {
+        return Progress::At { bit };
+    }
+    Progress::Refused {
+        status: VALUE_OUT_OF_RANGE,
+        bit,
+    }
 }
 
 // The codeblocks of subband k.
-fn codeblocks_of(p: Parameters, k: usize) -> Codeblocks
+fn codeblocks_of(p: Parameters, k: usize) -> CodeblockGrid
     requires { ⌜ Checked p × (k < subbandCount (p .depth)) ⌝ }
     ensures { λ r. ⌜ r ≡ codeblocksOf p k ⌝ }
 {
@@ -147,7 +173,7 @@ fn codeblocks_of(p: Parameters, k: usize) -> Codeblocks
     let level = subband.level;
     let across = p.codeblocks_across;
     let down = p.codeblocks_down;
-    Codeblocks {
+    CodeblockGrid {
         stride,
         subband,
         across: across[level] as usize,

@@ -8,14 +8,15 @@ use Rattle.base.specs.Sign.{withSign}
 use Rattle.base.specs.Walk.{walk}
 use Rattle.component.specs.Sizes.{paddedSize, bandSize, sizeAt}
 use Rattle.component.specs.Subbands.{subbandLevel, detailOf, orientation, leftOf, topOf, subbandAt}
+use Rattle.component.specs.Partition.{partStart}
 use Rattle.component.specs.Checks.{sizesInRange, depthInRange, waveletInRange, countsInRange, codeblocksInRange, areaOf, planesFit, refusalOf}
 use Rattle.exp_golomb.specs.Bits.{bitAt, present, takeBit}
 use Rattle.exp_golomb.specs.Codes.{onBit, codeFrom, unsigned, withSignBit, signed}
 use Rattle.coefficients.specs.Quantiser.{factorOf, quantFactor, quantOffset, scaled, dequantise}
-use Rattle.coefficients.specs.Reading.{going, onNumber, store, value, row, rectangle}
-use Rattle.unpack.specs.Codeblocks.{blockStart, onFlag, codeblockValues, codeblock, codeblockRow, codeblocks}
-use Rattle.unpack.specs.Prediction.{meanOf, predictor, predicted, predictedRow, prediction}
-use Rattle.unpack.specs.Subband.{bytesOf, goesOnAt, subbandData, checkedData, subbandFrom, predictedSubband, subband}
+use Rattle.coefficients.specs.Reading.{going, onNumber, store, value, rectangleValues}
+use Rattle.codeblocks.specs.Codeblocks.{codeblockArea, onFlag, codeblockValues, codeblock, codeblocks}
+use Rattle.prediction.specs.Prediction.{meanOf, predictor, storePredicted, predictedValue, predictedRow, prediction}
+use Rattle.unpack.specs.Subband.{boundary, onRead, headerAt, goesOnAt, subbandData, checkedData, headed, predictedBand, isPredicted, codeblocksOf, subbandFrom, subband}
 use Rattle.unpack.specs.Job.{endedWith, subbandsFrom, unpacked}
 use Rattle.lifting.specs.Filters.{filter0, filter1, filter2, haarSteps, filter3, filter4, filter5, filter6, filterOf}
 use Rattle.lifting.specs.Lifting.{changesEven, adds, clamp, readPlace, tapSum, rounding, update, changes, lift}
@@ -30,5 +31,5 @@ use Rattle.recording.specs.Output.{isLent, lentPlane, entryDecoded, heading, si
 use Rattle.contents.proofs.WholeCase.{wholeCase}
 
 pub whole-case-output : output wholeCase ≡ ascii "entry 0: 2 x 2\n9 12\n7 11\n"
-unfolding allBelow tabulate zerosLike fits32 withSign walk paddedSize bandSize sizeAt subbandLevel detailOf orientation leftOf topOf subbandAt sizesInRange depthInRange waveletInRange countsInRange codeblocksInRange areaOf planesFit refusalOf bitAt present takeBit onBit codeFrom unsigned withSignBit signed factorOf quantFactor quantOffset scaled dequantise going onNumber store value row rectangle blockStart onFlag codeblockValues codeblock codeblockRow codeblocks meanOf predictor predicted predictedRow prediction bytesOf goesOnAt subbandData checkedData subbandFrom predictedSubband subband endedWith subbandsFrom unpacked filter0 filter1 filter2 haarSteps filter3 filter4 filter5 filter6 filterOf changesEven adds clamp readPlace tapSum rounding update changes lift run runAll assigns newFit allNewFit pictureOf raster synthesisPasses interleave synthesis levelFits firstBadLevel pictureFrom badLevel accepted overflowed unchanged transformed synthesised decodeUnchanged zeroed decodeAccepted unpackedAndSynthesised decoded bigEndian codeblockCount codeblockCounts parametersAt offsetAt lengthAt bodyStart entryIsRight tableIsRight entryCount body ascii placesWithin decimal textSigned spaced textRow rows isLent lentPlane entryDecoded heading sizeText pictureText refusalText entryLines entryText joined output wholeCase
+unfolding allBelow tabulate zerosLike fits32 withSign walk paddedSize bandSize sizeAt subbandLevel detailOf orientation leftOf topOf subbandAt sizesInRange depthInRange waveletInRange countsInRange codeblocksInRange areaOf planesFit refusalOf bitAt present takeBit onBit codeFrom unsigned withSignBit signed factorOf quantFactor quantOffset scaled dequantise going onNumber store value rectangleValues partStart codeblockArea onFlag codeblockValues codeblock codeblocks meanOf predictor storePredicted predictedValue predictedRow prediction boundary onRead headerAt goesOnAt subbandData checkedData headed predictedBand isPredicted codeblocksOf subbandFrom subband endedWith subbandsFrom unpacked filter0 filter1 filter2 haarSteps filter3 filter4 filter5 filter6 filterOf changesEven adds clamp readPlace tapSum rounding update changes lift run runAll assigns newFit allNewFit pictureOf raster synthesisPasses interleave synthesis levelFits firstBadLevel pictureFrom badLevel accepted overflowed unchanged transformed synthesised decodeUnchanged zeroed decodeAccepted unpackedAndSynthesised decoded bigEndian codeblockCount codeblockCounts parametersAt offsetAt lengthAt bodyStart entryIsRight tableIsRight entryCount body ascii placesWithin decimal textSigned spaced textRow rows isLent lentPlane entryDecoded heading sizeText pictureText refusalText entryLines entryText joined output wholeCase
 whole-case-output = refl

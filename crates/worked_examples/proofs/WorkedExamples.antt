@@ -12,7 +12,7 @@ use Rattle.lifting.specs.Lifting.{changesEven, adds, clamp, readPlace, tapSum, 
 use Rattle.lifting.specs.Passes.{run, runAll}
 use Rattle.lifting.specs.Planes.{pictureOf, raster}
 use Rattle.coefficients.specs.Quantiser.{factorOf, quantFactor, quantOffset, scaled, dequantise}
-use Rattle.unpack.specs.Prediction.{meanOf}
+use Rattle.prediction.specs.Prediction.{meanOf}
 use Rattle.worked_examples.specs.Examples.{Row, readFrom, table}
 
 -- In every row the numbers computed are the numbers owed.

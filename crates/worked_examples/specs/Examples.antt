@@ -15,7 +15,7 @@ use Rattle.lifting.specs.Filters.{filterOf}
 use Rattle.lifting.specs.Passes.{Pass, rows, halve, runAll}
 use Rattle.lifting.specs.Planes.{pictureOf, raster}
 use Rattle.coefficients.specs.Quantiser.{quantFactor, dequantise}
-use Rattle.unpack.specs.Prediction.{meanOf}
+use Rattle.prediction.specs.Prediction.{meanOf}
 
 pub record Row : Type 0 where
   pub computed : List ℤ

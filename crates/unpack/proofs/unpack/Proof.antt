@@ -8,6 +8,7 @@ use Rattle.component.specs.Checks.{refusalOf}
 use Rattle.component.specs.declared.parameters.Job.the-variants.{Unpack}
 use Rattle.unpack.specs.Job.{outcome}
 use Rattle.unpack.proofs.JobLaws.{job-refused, job-read, job-checked, job-fits}
+use Rattle.unpack.proofs.FrameLaws.{zeros-clear}
 use Rattle.unpack.proofs.unpack.Statement.{statement}
 use Rattle.unpack.proofs.unpack.Tie as tie
 
@@ -31,7 +32,11 @@ read-subbands-requires : tie.Need-read-subbands-requires
 read-subbands-requires c κs =
     let start = c .before .before .before .before .before .before .before in
     let plane = now (start .args .coefficients) in
-    (job-checked (start .args .p) plane (none (c .before .before .before .before)), c .before .before .zero .kept .0 ∙ job-fits (start .args .p) plane (none (c .before .before .before .before)))
+    let passed = none (c .before .before .before .before) in (
+      job-checked (start .args .p) plane passed,
+      c .before .before .zero .kept .0 ∙ job-fits (start .args .p) plane passed,
+      rw (c .before .before .zero .ensures) (zeros-clear (start .args .p) plane),
+    )
 
 same-length : tie.Need-same-length
 same-length c = search needs

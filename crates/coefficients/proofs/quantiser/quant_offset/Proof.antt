@@ -3,7 +3,7 @@
 use mathlib.Core.Path.{sym}
 use native.Mathlib.Omega.{arith}
 use Rattle.coefficients.specs.Quantiser.{quantOffset}
-use Rattle.coefficients.proofs.QuantiserLaws.{factor-most, offset-from-2}
+use Rattle.coefficients.proofs.QuantiserLaws.{factor-below, offset-from-2}
 use Rattle.coefficients.proofs.quantiser.quant_offset.Statement.{statement}
 use Rattle.coefficients.proofs.quantiser.quant_offset.Tie as tie
 
@@ -16,7 +16,7 @@ unfolding quantOffset
 returns-2 c = rw (c .if2 .taken)
 
 add-result : tie.Need-add-result
-add-result c = omega (arith, factor-most (c .before .before .args .index) (c .before .before .pre .0))
+add-result c = omega (arith, factor-below (c .before .before .args .index) (c .before .before .pre .0))
 
 returns-3 : tie.Need-returns-3
 returns-3 c = rw (c .before .before .pre .1) (sym (offset-from-2 _ (c .before .if1 .left) (c .if2 .left)))

@@ -1,7 +1,8 @@
--- `coefficients::quantiser::quantiser_of` meets its contract: the factor and the offset are those of the index.
+-- `coefficients::quantiser::quantiser_of` meets its contract: the factor and the offset are those of the index, and have 31 bits.
 -- Assumes nothing.
-use mathlib.Core.Path.{refl}
 use borrow.Author.Needs.{needs}
+use Rattle.coefficients.specs.Quantiser.{dequantise}
+use Rattle.coefficients.proofs.QuantiserLaws.{factor-below, offset-below}
 use Rattle.coefficients.proofs.quantiser.quantiser_of.Statement.{statement}
 use Rattle.coefficients.proofs.quantiser.quantiser_of.Tie as tie
 
@@ -12,7 +13,15 @@ quant-offset-requires : tie.Need-quant-offset-requires
 quant-offset-requires c κs = search needs
 
 returns : tie.Need-returns
-returns c = (refl, record { in-range = c .before .before .pre; factor-is = c .before .quant-factor .ensures; offset-is = c .quant-offset .ensures })
+unfolding dequantise
+returns c =
+    let start = c .before .before in (
+      rw (c .before .quant-factor .ensures, c .quant-offset .ensures),
+      record {
+        factor-most = rw (c .before .quant-factor .ensures) (factor-below (start .args .index) (start .pre));
+        offset-most = rw (c .quant-offset .ensures) (offset-below (start .args .index) (start .pre));
+      },
+    )
 
 pub quantiser-of-spec : {M : Type 1} → statement M
 quantiser-of-spec = tie.close (tie.spec quant-factor-requires quant-offset-requires returns)

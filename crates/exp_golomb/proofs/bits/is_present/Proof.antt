@@ -1,13 +1,7 @@
 -- `exp_golomb::bits::is_present` meets its contract: the two tests are the two ends that data can have.
 -- Assumes nothing.
-use mathlib.Core.Path.{_≡_, sym, _∙_}
-use Prim.Native.Nat.{ℕ, _/_}
-use mathlib.Core.Bool.{Bool, true, false}
-use lib.Dec.{ltb}
-use lib.ListN.{length}
-use borrow.Author.Tests.{ltb-true, ltb-false, lt-ltb, le-ltb}
-use denote.Ref.{now}
-use Rattle.exp_golomb.specs.Bits.{present}
+use mathlib.Core.Path.{sym, _∙_}
+use borrow.Author.Tests.{le-ltb}
 use Rattle.exp_golomb.proofs.BitLaws.{present-second, present-past-end}
 use Rattle.exp_golomb.proofs.bits.is_present.Statement.{statement}
 use Rattle.exp_golomb.proofs.bits.is_present.Tie as tie

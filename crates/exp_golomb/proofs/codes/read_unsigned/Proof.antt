@@ -1,8 +1,7 @@
--- `exp_golomb::codes::read_unsigned` meets its contract: at the loop's head the rest of the code, from the value and the place so far, is the whole code.
+-- `exp_golomb::codes::read_unsigned` meets its contract: at the loop's head the rest of the code, from the value and the bit so far, is the whole code.
 -- Assumes nothing.
-use mathlib.Core.Path.{_≡_, refl, sym, ap, _∙_}
-use mathlib.Core.Logic.{_≢_}
-use Prim.Native.Nat.{ℕ, _+_, _-_, _*_, _^_, _≤_, _<_}
+use mathlib.Core.Path.{_≡_, refl, sym, _∙_}
+use Prim.Native.Nat.{_-_, _^_, _≤_, _<_}
 use native.Mathlib.Nat.{lt-of-lt-of-le}
 use native.Mathlib.Omega.{arith}
 use borrow.Author.Needs.{needs}
@@ -15,11 +14,11 @@ use Rattle.exp_golomb.proofs.codes.read_unsigned.Statement.{statement}
 use Rattle.exp_golomb.proofs.codes.read_unsigned.Tie as tie
 
 abbrev Inv-loop : tie.InvT-loop
-Inv-loop bytes end stated at v₀ left₀ place₀ v left place =
-    (left ≤ 31) × (1 ≤ v) × (v < 2 ^ (32 - left)) × (codeFrom bytes end stated left v place ≡ unsigned bytes end stated at)
+Inv-loop bytes end stated at v₀ left₀ i₀ v left i =
+    (left ≤ 31) × (1 ≤ v) × (v < 2 ^ (32 - left)) × (codeFrom bytes end stated left v i ≡ unsigned bytes end stated at)
 
 abbrev μ-loop : tie.MeasureT-loop
-μ-loop bytes end stated at v₀ left₀ place₀ v left place = left
+μ-loop bytes end stated at v₀ left₀ i₀ v left i = left
 
 loop-holds : tie.Need-loop-holds Inv-loop μ-loop
 unfolding unsigned

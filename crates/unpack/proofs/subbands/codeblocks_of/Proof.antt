@@ -8,7 +8,7 @@ use lib.ListN.{getD}
 use Rattle.component.specs.Subbands.{subbandAt, subbandLevel}
 use Rattle.component.specs.declared.subbands.Subband.{Subband}
 use Rattle.component.proofs.CheckLaws.{Counts, counts-at, width-most, height-most, depth-most}
-use Rattle.unpack.specs.Bounds.{codeblocksOf}
+use Rattle.unpack.specs.Subband.{codeblocksOf}
 use Rattle.unpack.proofs.subbands.codeblocks_of.Statement.{statement}
 use Rattle.unpack.proofs.subbands.codeblocks_of.Tie as tie
 

@@ -1,18 +1,20 @@
--- `unpack::subbands::read_data` meets its contract: the codeblocks are read from the part of the bytes that the length states.
+-- `unpack::subbands::read_data` meets its contract: all codeblocks are read from the part of the bytes that the length states, since past
+-- data of a stated length no bit is missing.
 -- Assumes nothing.
-use mathlib.Core.Path.{_≡_, sym, ap, _∙_, subst}
-use Prim.Native.Nat.{ℕ, _+_, _-_, _*_}
+use mathlib.Core.Path.{_≡_, refl, ap, _∙_}
+use Prim.Native.Nat.{ℕ, _+_, _-_, _*_, _/_}
 use native.Mathlib.Omega.{arith}
 use borrow.Author.Needs.{needs}
-use lib.ListN.{length, take, drop}
+use lib.ListN.{take, drop}
 use denote.Ref.{now}
+use Rattle.coefficients.specs.Quantiser.{dequantise}
 use Rattle.coefficients.specs.Reading.{Run, goesOn}
-use Rattle.coefficients.specs.Bounds.{after}
-use Rattle.unpack.specs.Codeblocks.{codeblocks}
+use Rattle.coefficients.specs.Values.{after}
+use Rattle.codeblocks.specs.Codeblocks.{codeblocks}
+use Rattle.codeblocks.proofs.CodeblocksLaws.{clear-blocks}
+use Rattle.codeblocks.proofs.RestLaws.{blocks-whole}
 use Rattle.unpack.specs.Subband.{subbandData}
-use Rattle.unpack.specs.Bounds.{codeblocksOf, Placed}
-use Rattle.unpack.specs.declared.codeblocks.Codeblocks.{Codeblocks}
-use Rattle.unpack.proofs.HeaderLaws.{codeblocks-placed, data-ends, data-stops}
+use Rattle.unpack.proofs.SubbandLaws.{data-ends, data-stop}
 use Rattle.unpack.proofs.subbands.read_data.Statement.{statement}
 use Rattle.unpack.proofs.subbands.read_data.Tie as tie
 
@@ -28,21 +30,23 @@ part-data-start c = search needs
 part-data-end : tie.Need-part-data-end
 part-data-end c = search needs
 
-codeblocks-of-requires : tie.Need-codeblocks-of-requires
-codeblocks-of-requires c κs = search needs
-
-mul-read-codeblocks : tie.Need-mul-read-codeblocks
-mul-read-codeblocks c = search needs
+mul-t18 : tie.Need-mul-t18
+mul-t18 c = search needs
 
 quantiser-of-requires : tie.Need-quantiser-of-requires
 quantiser-of-requires c κs = search needs
 
+small-values-requires : tie.Need-small-values-requires
+small-values-requires c κs = c .quantiser-of .ensures .1
+
 read-codeblocks-requires : tie.Need-read-codeblocks-requires
 read-codeblocks-requires c κs =
-    let start = c .before .before .before .before .before in (
-      subst (λ (b : Codeblocks). Placed b (now (start .args .plane))) (sym (c .before .before .codeblocks-of .ensures))
-          (codeblocks-placed (start .args .p) (start .pre .0) (start .args .k) (start .pre .1) (now (start .args .plane)) (start .pre .5)),
-      c .quantiser-of .ensures .1,
+    let start = c .before .before .before .before .before .before in (
+      start .pre .0,
+      omega arith,
+      clear-blocks (start .args .blocks) (now (start .args .plane)) (start .pre .0) (start .pre .1 .each),
+      record { before-end = omega arith; small = omega (arith, start .pre .3, start .pre .4) },
+      record { bounded = c .before .before .before .quantiser-of .ensures .1; knows = start .pre .6; small-values = c .before .before .small-values .ensures },
     )
 
 enum-told : tie.Need-enum-told
@@ -52,41 +56,40 @@ enum-told-2 : tie.Need-enum-told-2
 enum-told-2 c = search needs
 
 same-length : tie.Need-same-length
-same-length c = c .before .before .before .read-codeblocks .kept .0
+same-length c = search needs
 
--- the run that the callee left, by the parameters
+-- the run that the callee left, as the definition has it
 left : (c : tie.After-read-codeblocks) →
-    let start = c .before .before .before .before .before .before in
-    let blocks = codeblocksOf (start .args .p) (start .args .k) in
-    after (c .read-codeblocks .result) (c .read-codeblocks .last .0) ≡
-    codeblocks (take (start .args .size) (drop (start .args .start) (now (start .args .bytes)))) (8 * start .args .size) (start .args .index) (blocks .stride) (blocks .subband) (blocks .across) (blocks .down) (goesOn 0 (now (start .args .plane)))
+    let start = c .before .before .before .before .before .before .before in
+    after (c .read-codeblocks .result .progress) (c .read-codeblocks .last .0) ≡
+    codeblocks (take (start .args .size) (drop (start .args .bit / 8) (now (start .args .bytes)))) (8 * start .args .size) (start .args .bit) (dequantise (start .args .index)) (start .args .blocks) (goesOn 0 (now (start .args .plane)))
 left c =
-    let start = c .before .before .before .before .before .before in
+    let start = c .before .before .before .before .before .before .before in
+    let q = c .before .before .before .before .quantiser-of in
     let size = start .args .size in
-    let read : Codeblocks → ℕ → ℕ → Run = λ b i n.
-    codeblocks (take n (drop (start .args .start) (now (start .args .bytes)))) (8 * size) i (b .stride) (b .subband) (b .across) (b .down) (goesOn 0 (now (start .args .plane))) in
-    let whole : start .args .start + size - start .args .start ≡ size = omega arith in
-    c .read-codeblocks .ensures
-    ∙ ap (λ (b : Codeblocks). read b (c .before .quantiser-of .result .index) (start .args .start + size - start .args .start)) (c .before .before .before .codeblocks-of .ensures)
-    ∙ ap (λ (i : ℕ). read (codeblocksOf (start .args .p) (start .args .k)) i (start .args .start + size - start .args .start)) (c .before .quantiser-of .ensures .0)
-    ∙ ap (λ (n : ℕ). read (codeblocksOf (start .args .p) (start .args .k)) (start .args .index) n) whole
+    let at = start .args .bit / 8 in
+    let read : (ℕ → ℕ) → ℕ → Run = λ scale n. codeblocks (take n (drop at (now (start .args .bytes)))) (8 * size) (start .args .bit) scale (start .args .blocks) (goesOn 0 (now (start .args .plane))) in
+    let whole : at + size - at ≡ size = omega arith in
+    blocks-whole _ _ _ _ _ _ _ refl (c .read-codeblocks .ensures) ∙ ap (λ (scale : ℕ → ℕ). read scale (at + size - at)) (q .ensures .0) ∙ ap (read (dequantise (start .args .index))) whole
 
 returns : tie.Need-returns
-unfolding subbandData codeblocksOf
+unfolding subbandData
 returns c =
     let told = c .enum-told2 .given .1 in
-    let start = c .before .before .before .before .before .before .before .before .before in
-    rw told (data-stops (start .args .start + start .args .size) _ _ _ (rw told at (left (c .before .before .before))))
+    rw told (data-stop _ _ _ _ _ (rw told at (left (c .before .before .before))))
+
+mul-t18-2 : tie.Need-mul-t18-2
+mul-t18-2 c = search needs
+
+add-t24 : tie.Need-add-t24
+add-t24 c = search needs
 
 same-length-2 : tie.Need-same-length-2
-same-length-2 c = c .before .before .before .read-codeblocks .kept .0
+same-length-2 c = search needs
 
 returns-2 : tie.Need-returns-2
-unfolding subbandData codeblocksOf
-returns-2 c =
-    let told = c .enum-told .given .1 in
-    let start = c .before .before .before .before .before .before .before .before .before in
-    data-ends (start .args .start + start .args .size) _ _ _ (rw told at (left (c .before .before .before)))
+unfolding subbandData
+returns-2 c = data-ends _ _ _ _ (rw (c .enum-told .given .1) at (left (c .before .before .before)))
 
 pub read-data-spec : {M : Type 1} → statement M
 read-data-spec =
@@ -96,13 +99,15 @@ read-data-spec =
     sub-data
     part-data-start
     part-data-end
-    codeblocks-of-requires
-    mul-read-codeblocks
+    mul-t18
     quantiser-of-requires
+    small-values-requires
     read-codeblocks-requires
     enum-told
     enum-told-2
     same-length
     returns
+    mul-t18-2
+    add-t24
     same-length-2
     returns-2)

@@ -1,0 +1,14 @@
+// Document 01, "What the decoder covers": how large the numbers of a component may be. The least is 1 for sizes and codeblock counts, and 0 for
+// the rest.
+pub const SIZE_MOST: u32 = 4096;
+
+pub const DEPTH_MOST: u32 = 4;
+
+pub const WAVELET_MOST: u32 = 6;
+
+pub const CODEBLOCKS_MOST: u32 = 255;
+
+pub const QUANTISER_MOST: u32 = 115;
+
+// "Number codes": how many data bits a code may have.
+pub const DATA_BITS_MOST: u32 = 31;

@@ -1,0 +1,7 @@
+-- The laws of codeblocks, for this crate and those above it.
+pub mod CodeblockTiling
+pub mod BlockLaws
+pub mod CodeblocksLaws
+pub mod FlagLaws
+pub mod RestLaws
+pub mod TurnLaws

@@ -1,0 +1,2 @@
+-- The laws of prediction, for this crate and those above it.
+pub mod PredictionLaws

@@ -1,0 +1,2 @@
+-- Document 01
+pub mod Prediction
