@@ -1,14 +1,22 @@
 // Document 01, "One subband": the unpack job, from bytes to coefficients.
+pub mod data;
 pub mod header;
-pub mod subbands;
 
 ghost use mathlib.Core.Path.{_≡_};
+ghost use Prim.Native.Nat.{_<_, _^_};
 ghost use lib.ListN.{length};
 ghost use Rattle.component.specs.Checks.{areaOf};
 ghost use Rattle.component.specs.Subbands.{subbandCount};
+ghost use Rattle.lookups.specs.Lookups.{KnowsCodes};
+ghost use Rattle.coefficients.specs.Reading.{goesOn};
+ghost use Rattle.coefficients.specs.Values.{after};
+ghost use Rattle.unpack.specs.Subband.{codeblocksOf, subband};
 ghost use Rattle.unpack.specs.Job.{outcome, subbandsFrom, unpacked};
-ghost use Rattle.unpack.specs.Bounds.{Checked, ClearBandsFrom, progressStatus};
-use crate::subbands::read_subband;
+ghost use Rattle.unpack.specs.Bounds.{Checked, ClearBand, ClearBandsFrom, progressStatus};
+use crate::data::codeblocks_of;
+use crate::data::predict_band;
+use crate::data::read_headed;
+use crate::header::read_header;
 use base::plane::zero;
 use base::status::ACCEPTED;
 use coefficients::reading::Progress;
@@ -63,6 +71,36 @@ fn read_subbands(p: Parameters, bytes: &[u8], plane: &mut [i32]) -> Answer
         status: ACCEPTED,
         place: at / 8,
     }
+}
+
+// Reads subband k from a bit on, into zeros: its header, its data, and its prediction where the rules say so. Goes on at the bit after it.
+fn read_subband(
+    plane: &mut [i32],
+    p: Parameters,
+    k: usize,
+    bytes: &[u8],
+    at: usize,
+    table: &[u16; 256],
+) -> Progress
+    requires { ⌜
+        Checked p × (k < subbandCount (p .depth)) × (length (now plane) ≡ areaOf p)
+        × ClearBand (codeblocksOf p k) (now plane) × (at < 2 ^ 61) × KnowsCodes (now table)
+        ⌝ }
+    ensures { λ r. ⌜ after r (now (plane .exit)) ≡ subband p (now (bytes .entry)) k (goesOn at (now (plane .entry))) ⌝ }
+{
+    let blocks = codeblocks_of(p, k);
+    let header = read_header(bytes, at);
+    let progress = read_headed(plane, blocks, header, bytes, table);
+    let Progress::At { bit } = progress else {
+        return progress;
+    };
+    if k != 0 {
+        return progress;
+    }
+    if !p.intra {
+        return progress;
+    }
+    predict_band(plane, blocks, bit)
 }
 
 // The number of a refusal, or 0.

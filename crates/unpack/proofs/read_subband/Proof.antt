@@ -1,4 +1,4 @@
--- `unpack::subbands::read_subband` meets its contract: each way on after the header and the data is a law of `subband`.
+-- `unpack::read_subband` meets its contract: each way on after the header and the data is a law of `subband`.
 -- Assumes nothing.
 use mathlib.Core.Path.{_≡_, refl, sym, _∙_, subst}
 use borrow.Author.Needs.{needs}
@@ -11,8 +11,8 @@ use Rattle.unpack.specs.Subband.{subbandFrom}
 use Rattle.unpack.specs.Bounds.{ClearBand}
 use Rattle.unpack.proofs.HeaderLaws.{header-sound}
 use Rattle.unpack.proofs.SubbandLaws.{codeblocks-placed, subband-stops, not-first, not-intra, first-intra}
-use Rattle.unpack.proofs.subbands.read_subband.Statement.{statement}
-use Rattle.unpack.proofs.subbands.read_subband.Tie as tie
+use Rattle.unpack.proofs.read_subband.Statement.{statement}
+use Rattle.unpack.proofs.read_subband.Tie as tie
 
 codeblocks-of-requires : tie.Need-codeblocks-of-requires
 codeblocks-of-requires c κs = search needs

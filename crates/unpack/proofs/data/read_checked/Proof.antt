@@ -1,4 +1,4 @@
--- `unpack::subbands::read_checked` meets its contract: its tests are those of the definition, in its order.
+-- `unpack::data::read_checked` meets its contract: its tests are those of the definition, in its order.
 -- Assumes nothing.
 use Prim.Native.Nat.{_+_, _/_}
 use borrow.Author.Needs.{needs}
@@ -6,8 +6,8 @@ use borrow.Author.Tests.{lt-ltb, le-ltb}
 use lib.ListN.{length}
 use denote.Ref.{now}
 use Rattle.unpack.specs.Subband.{checkedData}
-use Rattle.unpack.proofs.subbands.read_checked.Statement.{statement}
-use Rattle.unpack.proofs.subbands.read_checked.Tie as tie
+use Rattle.unpack.proofs.data.read_checked.Statement.{statement}
+use Rattle.unpack.proofs.data.read_checked.Tie as tie
 
 returns : tie.Need-returns
 unfolding checkedData

@@ -1,4 +1,4 @@
--- `unpack::subbands::read_data` meets its contract: all codeblocks are read from the part of the bytes that the length states, since past
+-- `unpack::data::read_data` meets its contract: all codeblocks are read from the part of the bytes that the length states, since past
 -- data of a stated length no bit is missing.
 -- Assumes nothing.
 use mathlib.Core.Path.{_≡_, refl, ap, _∙_}
@@ -15,8 +15,8 @@ use Rattle.codeblocks.proofs.CodeblocksLaws.{clear-blocks}
 use Rattle.codeblocks.proofs.RestLaws.{blocks-whole}
 use Rattle.unpack.specs.Subband.{subbandData}
 use Rattle.unpack.proofs.SubbandLaws.{data-ends, data-stop}
-use Rattle.unpack.proofs.subbands.read_data.Statement.{statement}
-use Rattle.unpack.proofs.subbands.read_data.Tie as tie
+use Rattle.unpack.proofs.data.read_data.Statement.{statement}
+use Rattle.unpack.proofs.data.read_data.Tie as tie
 
 add-end : tie.Need-add-end
 add-end c = search needs

@@ -1,9 +1,9 @@
--- `unpack::subbands::read_headed` meets its contract: each kind of header goes on as the definition says.
+-- `unpack::data::read_headed` meets its contract: each kind of header goes on as the definition says.
 -- Assumes nothing.
 use borrow.Author.Needs.{needs}
 use Rattle.unpack.specs.Subband.{headed}
-use Rattle.unpack.proofs.subbands.read_headed.Statement.{statement}
-use Rattle.unpack.proofs.subbands.read_headed.Tie as tie
+use Rattle.unpack.proofs.data.read_headed.Statement.{statement}
+use Rattle.unpack.proofs.data.read_headed.Tie as tie
 
 enum-known-header : tie.Need-enum-known-header
 enum-known-header c = search needs

@@ -1,4 +1,4 @@
--- `unpack::subbands::codeblocks_of` meets its contract: each field is what a callee or the parameters say of it.
+-- `unpack::data::codeblocks_of` meets its contract: each field is what a callee or the parameters say of it.
 -- Assumes nothing.
 use mathlib.Core.Path.{_≡_, ap}
 use Prim.Native.Nat.{_+_, _/_, _<_}
@@ -9,8 +9,8 @@ use Rattle.component.specs.Subbands.{subbandAt, subbandLevel}
 use Rattle.component.specs.declared.subbands.Subband.{Subband}
 use Rattle.component.proofs.CheckLaws.{Counts, counts-at, width-most, height-most, depth-most}
 use Rattle.unpack.specs.Subband.{codeblocksOf}
-use Rattle.unpack.proofs.subbands.codeblocks_of.Statement.{statement}
-use Rattle.unpack.proofs.subbands.codeblocks_of.Tie as tie
+use Rattle.unpack.proofs.data.codeblocks_of.Statement.{statement}
+use Rattle.unpack.proofs.data.codeblocks_of.Tie as tie
 
 cast-depth : tie.Need-cast-depth
 cast-depth c = search needs

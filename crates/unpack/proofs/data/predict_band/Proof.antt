@@ -1,9 +1,9 @@
--- `unpack::subbands::predict_band` meets its contract: the band lies in the plane, and whether all values fit decides how the run goes on.
+-- `unpack::data::predict_band` meets its contract: the band lies in the plane, and whether all values fit decides how the run goes on.
 -- Assumes nothing.
 use borrow.Author.Needs.{needs}
 use Rattle.unpack.proofs.SubbandLaws.{band-inside, band-fits, band-out}
-use Rattle.unpack.proofs.subbands.predict_band.Statement.{statement}
-use Rattle.unpack.proofs.subbands.predict_band.Tie as tie
+use Rattle.unpack.proofs.data.predict_band.Statement.{statement}
+use Rattle.unpack.proofs.data.predict_band.Tie as tie
 
 predict-requires : tie.Need-predict-requires
 predict-requires c κs = band-inside _ _ (c .before .before .pre)

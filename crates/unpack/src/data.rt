@@ -1,17 +1,14 @@
-// Document 01, "One subband": header, data, prediction.
+// Document 01, "One subband": what a header announces, read or refused, and the prediction of a band.
 ghost use mathlib.Core.Path.{_≡_};
 ghost use Prim.Native.Nat.{_+_, _/_, _≤_, _<_, _^_};
 ghost use lib.ListN.{length};
 ghost use Rattle.component.specs.Subbands.{subbandCount};
 ghost use Rattle.lookups.specs.Lookups.{KnowsCodes};
-ghost use Rattle.coefficients.specs.Reading.{goesOn};
 ghost use Rattle.coefficients.specs.Values.{after};
 ghost use Rattle.codeblocks.specs.Blocks.{Placed};
-ghost use Rattle.component.specs.Checks.{areaOf};
-ghost use Rattle.unpack.specs.Subband.{codeblocksOf, subbandData, checkedData, headed, predictedBand, subband};
+ghost use Rattle.unpack.specs.Subband.{codeblocksOf, subbandData, checkedData, headed, predictedBand};
 ghost use Rattle.unpack.specs.Bounds.{Checked, ClearBand, SoundHeader};
 use crate::header::Header;
-use crate::header::read_header;
 use base::limits::QUANTISER_MOST;
 use base::status::BYTES_END_EARLY;
 use base::status::QUANTISER_REFUSED;
@@ -28,38 +25,8 @@ use component::sizes::padded_size;
 use component::subbands::subband_at;
 use prediction::predict;
 
-// Reads subband k from a bit on, and predicts it where the rules say so. Goes on at the bit after it.
-pub fn read_subband(
-    plane: &mut [i32],
-    p: Parameters,
-    k: usize,
-    bytes: &[u8],
-    at: usize,
-    table: &[u16; 256],
-) -> Progress
-    requires { ⌜
-        Checked p × (k < subbandCount (p .depth)) × (length (now plane) ≡ areaOf p)
-        × ClearBand (codeblocksOf p k) (now plane) × (at < 2 ^ 61) × KnowsCodes (now table)
-        ⌝ }
-    ensures { λ r. ⌜ after r (now (plane .exit)) ≡ subband p (now (bytes .entry)) k (goesOn at (now (plane .entry))) ⌝ }
-{
-    let blocks = codeblocks_of(p, k);
-    let header = read_header(bytes, at);
-    let progress = read_headed(plane, blocks, header, bytes, table);
-    let Progress::At { bit } = progress else {
-        return progress;
-    };
-    if k != 0 {
-        return progress;
-    }
-    if !p.intra {
-        return progress;
-    }
-    predict_band(plane, blocks, bit)
-}
-
 // Reads what a header announces.
-fn read_headed(
+pub(crate) fn read_headed(
     plane: &mut [i32],
     blocks: CodeblockGrid,
     header: Header,
@@ -148,7 +115,7 @@ fn read_data(
 }
 
 // Predicts the values of a subband at the top left of the plane. Reading goes on where it was.
-fn predict_band(plane: &mut [i32], blocks: CodeblockGrid, bit: usize) -> Progress
+pub(crate) fn predict_band(plane: &mut [i32], blocks: CodeblockGrid, bit: usize) -> Progress
     requires { ⌜ Placed blocks (now plane) ⌝ }
     ensures { λ r. ⌜ after r (now (plane .exit)) ≡ predictedBand blocks bit (now (plane .entry)) ⌝ }
 {
@@ -163,7 +130,7 @@ fn predict_band(plane: &mut [i32], blocks: CodeblockGrid, bit: usize) -> Progres
 }
 
 // The codeblocks of subband k.
-fn codeblocks_of(p: Parameters, k: usize) -> CodeblockGrid
+pub(crate) fn codeblocks_of(p: Parameters, k: usize) -> CodeblockGrid
     requires { ⌜ Checked p × (k < subbandCount (p .depth)) ⌝ }
     ensures { λ r. ⌜ r ≡ codeblocksOf p k ⌝ }
 {
