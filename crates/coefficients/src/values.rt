@@ -213,11 +213,14 @@ fn read_lookups(
     }
 }
 
-// The entry that value i goes to.
+// The entry that value i goes to. A single row needs no multiplication.
 fn index_at(layout: Layout, i: usize) -> usize
     requires { ⌜ (i ≤ 4096) × (layout .reciprocal ≤ 65537) × (indexOf layout i < 2 ^ 64) ⌝ }
     ensures { λ r. ⌜ r ≡ indexOf layout i ⌝ }
 {
+    if layout.reciprocal == 0 {
+        return layout.start + i;
+    }
     layout.start + i + (i * layout.reciprocal / 65536) * layout.gap
 }
 
