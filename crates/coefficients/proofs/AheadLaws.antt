@@ -100,7 +100,7 @@ left-more w bits rest b few short left bytes end at ahead =
     let less : 56 - (bits + b) ≡ 56 - bits - b = omega arith in
     rw (next, less) (ahead-shift bytes end rest (at + bits) (56 - bits) (left bytes end at ahead) b (omega arith))
 
--- values by no lookup, by 16 ones at once, by one lookup more, and by its zeros alone, as many as there is room for
+-- values by no lookup, by 32 ones at once, by one lookup more, and by its zeros alone, as many as there is room for
 module _ (w : ℕ) (small : List ℤ) (index : ℕ → ℕ) (grows : (i j : ℕ) → i < j → index i < index j) (i room : ℕ) (start : List ℤ) (clear : Clear index i room start) where
   pub ahead-none : (count : ℕ) → count ≡ 0 → ReadsAhead w small index i start (record { count = count; bits = 0 }) start
   ahead-none count none =
@@ -110,12 +110,12 @@ module _ (w : ℕ) (small : List ℤ) (index : ℕ → ℕ) (grows : (i j : ℕ)
             rw none (entries-none bytes end origin scale index i (goesOn at start) ∙ ap (λ (k : ℕ). goesOn k start) (sym (add-zero at)));
       }
 
-  pub ahead-ones-16 : w / 2 ^ 48 ≡ 65535 → i + 16 ≤ room → ReadsAhead w small index i start (record { count = 16; bits = 16 }) start
-  ahead-ones-16 ones fits =
+  pub ahead-ones-32 : w / 2 ^ 32 ≡ 4294967295 → i + 32 ≤ room → ReadsAhead w small index i start (record { count = 32; bits = 32 }) start
+  ahead-ones-32 ones fits =
       record {
         few = omega arith;
         values = λ bytes end origin scale at held ahead.
-            entries-zeros bytes end origin scale small held index i at start 16 (λ j h. ahead-present bytes end w at 56 ahead j (omega arith))
+            entries-zeros bytes end origin scale small held index i at start 32 (λ j h. ahead-present bytes end w at 56 ahead j (omega arith))
             (ahead-ones bytes end w at 56 ahead (omega arith) ones) (record { each = λ k h g. clear .each k h (omega arith) });
       }
 

@@ -154,11 +154,11 @@ fn read_batch(
         × ReadsAhead window (now (small .entry)) (indexOf layout) from (now (plane .entry)) r (now (plane .exit))
         ⌝ }
 {
-    if 16 <= layout.count - from {
+    if 32 <= layout.count - from {
         if starts_with_ones(window) {
             return Batch {
-                count: 16,
-                bits: 16,
+                count: 32,
+                bits: 32,
             };
         }
     }

@@ -53,11 +53,11 @@ fn wide(byte: u8) -> u64
     byte as u64
 }
 
-// Whether a window starts with 16 ones, each the code of a 0.
+// Whether a window starts with 32 ones, each the code of a 0.
 pub fn starts_with_ones(w: u64) -> bool
-    ensures { λ r. ⌜ r ≡ eqb (w / 2 ^ 48) 65535 ⌝ }
+    ensures { λ r. ⌜ r ≡ eqb (w / 2 ^ 32) 4294967295 ⌝ }
 {
-    w >> 48 == 65535
+    w >> 32 == 4294967295
 }
 
 // What the table tells of the eight bits that start a window.

@@ -66,8 +66,8 @@ fn put_row_ends(random: &mut Random, run: &Run, index: u32, quantised: &mut [i64
 
 /// How many zeros stand between a run's last number and its end.
 fn random_tail(random: &mut Random) -> usize {
-    let (near, any) = (random.range(14, 18), random.range(0, 24));
-    random.pick(&[0, near, any, any]) as usize
+    let (near, any) = (random.range(30, 34), random.range(0, 24));
+    random.pick(&[0, near, near, any, any]) as usize
 }
 
 /// Puts numbers with runs of zeros between them up to one near the end; none where that has no place.

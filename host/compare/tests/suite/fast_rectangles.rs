@@ -16,7 +16,7 @@ const COARSE: u8 = 2;
 /// Up to 32 rows are one run, too many for the reciprocal.
 const MANY_ROWS: u8 = 3;
 /// Sixteen ones are zeros where 15 values are left.
-const SIXTEEN: u8 = 4;
+const THIRTY_TWO: u8 = 4;
 /// Zeros that pass a run's end are taken from the data all the same.
 const CUT: u8 = 5;
 /// A window is looked up eight times.
@@ -78,10 +78,10 @@ fn read_window(
     mut store: impl FnMut(usize, i64) -> Result<(), u32>,
 ) -> Result<usize, u32> {
     let mut w = window(bits);
-    let least = if fault == SIXTEEN { 15 } else { 16 };
-    if layout.count - from >= least && w >> 48 == 0xFFFF {
-        bits.at += 16;
-        return Ok(16);
+    let least = if fault == THIRTY_TWO { 31 } else { 32 };
+    if layout.count - from >= least && w >> 32 == 0xFFFF_FFFF {
+        bits.at += 32;
+        return Ok(32);
     }
     let mut i = from;
     for _ in 0..if fault == LOOKUPS { 8 } else { 7 } {
@@ -215,7 +215,7 @@ fn faults_at_the_borders_of_many_rows_are_found_often() {
         ("reciprocal", fast::<RECIPROCAL>),
         ("coarse", fast::<COARSE>),
         ("many rows", fast::<MANY_ROWS>),
-        ("sixteen", fast::<SIXTEEN>),
+        ("thirty-two", fast::<THIRTY_TWO>),
         ("cut", fast::<CUT>),
         ("lookups", fast::<LOOKUPS>),
         ("last bits", fast::<LAST_BITS>),

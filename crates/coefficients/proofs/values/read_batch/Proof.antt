@@ -1,11 +1,11 @@
--- `coefficients::values::read_batch` meets its contract: 16 ones are 16 zeros, and anything else is looked up.
+-- `coefficients::values::read_batch` meets its contract: 32 ones are 32 zeros, and anything else is looked up.
 -- Assumes nothing.
 use native.Mathlib.Omega.{arith}
 use borrow.Author.Needs.{needs}
 use borrow.Author.Tests.{eqb-true}
 use mathlib.Core.Path.{sym, _∙_}
 use Rattle.coefficients.proofs.ValuesLaws.{index-grows}
-use Rattle.coefficients.proofs.AheadLaws.{ahead-ones-16}
+use Rattle.coefficients.proofs.AheadLaws.{ahead-ones-32}
 use Rattle.coefficients.proofs.values.read_batch.Statement.{statement}
 use Rattle.coefficients.proofs.values.read_batch.Tie as tie
 
@@ -20,7 +20,7 @@ returns c =
     let start = c .before .before .before .before in
     let room = c .before .before .if1 .taken in (
       omega (arith, room, start .pre .0 .counted),
-      ahead-ones-16 _ _ _ (index-grows (start .args .layout)) _ _ _ (start .pre .0 .clear) (eqb-true _ _ (sym (c .before .starts-with-ones .ensures) ∙ c .if2 .taken))
+      ahead-ones-32 _ _ _ (index-grows (start .args .layout)) _ _ _ (start .pre .0 .clear) (eqb-true _ _ (sym (c .before .starts-with-ones .ensures) ∙ c .if2 .taken))
           (omega (arith, room, start .pre .0 .counted)),
     )
 
