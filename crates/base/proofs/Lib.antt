@@ -5,3 +5,4 @@ pub mod Fills
 pub mod Everys
 pub mod Magnitudes
 pub mod Grids
+pub mod Reciprocals

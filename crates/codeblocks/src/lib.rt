@@ -2,6 +2,7 @@
 ghost use mathlib.Core.Path.{_≡_};
 ghost use mathlib.Core.Bool.{cond};
 ghost use Prim.Native.Nat.{_+_, _*_, _≤_, _<_};
+ghost use Rattle.component.specs.Reciprocal.{reciprocalOf};
 ghost use Rattle.coefficients.specs.Scaling.{scaleOf};
 ghost use Rattle.coefficients.specs.Values.{Decoding, Sound};
 ghost use Rattle.codeblocks.specs.Blocks.{countOf, Counted, Placed, blockAt, blockBefore, ClearBlocks, Flagged, BlocksRead};
@@ -10,6 +11,8 @@ use coefficients::reading::Cursor;
 use coefficients::reading::Progress;
 use coefficients::reading::Rectangle;
 use component::partition::part_start;
+use component::partition::part_start_by;
+use component::partition::reciprocal_of;
 use component::subbands::Subband;
 use exp_golomb::bits::Bit;
 use exp_golomb::bits::take_bit;
@@ -71,6 +74,7 @@ pub fn read_codeblocks(
     let count = blocks.across * blocks.down;
     let mut position = from;
     let mut block = block_before(blocks, from.begun);
+    let reciprocal = reciprocal_of(blocks.across);
     let mut next = cursor;
     loop {
         let area = block.area;
@@ -84,18 +88,11 @@ pub fn read_codeblocks(
                 short: false,
             };
         };
-        if part.short {
+        if part.short || count <= position.begun {
             return Reached {
                 position,
                 progress,
-                short: true,
-            };
-        }
-        if count <= position.begun {
-            return Reached {
-                position,
-                progress,
-                short: false,
+                short: part.short,
             };
         }
         next.bit = bit;
@@ -108,7 +105,7 @@ pub fn read_codeblocks(
             };
         }
         next.bit = flag.bit;
-        block = next_block(blocks, block, position.begun);
+        block = next_block(blocks, block, position.begun, reciprocal);
         position = begun_at(position.begun, block.area, flag.skipped);
     }
 }
@@ -175,8 +172,13 @@ fn block_at(blocks: CodeblockGrid, m: usize) -> PlacedCodeblock
 }
 
 // Codeblock m, from the one before it. In a row of codeblocks each starts where the one before it ends.
-fn next_block(blocks: CodeblockGrid, before: PlacedCodeblock, m: usize) -> PlacedCodeblock
-    requires { ⌜ Counted blocks × (m < countOf blocks) × (before ≡ blockBefore blocks m) ⌝ }
+fn next_block(
+    blocks: CodeblockGrid,
+    before: PlacedCodeblock,
+    m: usize,
+    reciprocal: usize,
+) -> PlacedCodeblock
+    requires { ⌜ Counted blocks × (m < countOf blocks) × (before ≡ blockBefore blocks m) × (reciprocal ≡ reciprocalOf (blocks .across)) ⌝ }
     ensures { λ r. ⌜ r ≡ blockAt blocks m ⌝ }
 {
     let x = before.x + 1;
@@ -184,7 +186,7 @@ fn next_block(blocks: CodeblockGrid, before: PlacedCodeblock, m: usize) -> Place
         return block_at(blocks, m);
     }
     let s = blocks.subband;
-    let right = part_start(s.width, blocks.across, x + 1);
+    let right = part_start_by(s.width, reciprocal, x + 1);
     let last = before.area;
     let area = Rectangle {
         start: last.start + last.width,

@@ -100,7 +100,7 @@ left-more w bits rest b few short left bytes end at ahead =
     let less : 56 - (bits + b) ≡ 56 - bits - b = omega arith in
     rw (next, less) (ahead-shift bytes end rest (at + bits) (56 - bits) (left bytes end at ahead) b (omega arith))
 
--- values by no lookup, by 32 ones at once, by one lookup more, and by its zeros alone, as many as there is room for
+-- values by no lookup, by some ones at once, by one lookup more, and by its zeros alone, as many as there is room for
 module _ (w : ℕ) (small : List ℤ) (index : ℕ → ℕ) (grows : (i j : ℕ) → i < j → index i < index j) (i room : ℕ) (start : List ℤ) (clear : Clear index i room start) where
   pub ahead-none : (count : ℕ) → count ≡ 0 → ReadsAhead w small index i start (record { count = count; bits = 0 }) start
   ahead-none count none =
@@ -110,13 +110,13 @@ module _ (w : ℕ) (small : List ℤ) (index : ℕ → ℕ) (grows : (i j : ℕ)
             rw none (entries-none bytes end origin scale index i (goesOn at start) ∙ ap (λ (k : ℕ). goesOn k start) (sym (add-zero at)));
       }
 
-  pub ahead-ones-32 : w / 2 ^ 32 ≡ 4294967295 → i + 32 ≤ room → ReadsAhead w small index i start (record { count = 32; bits = 32 }) start
-  ahead-ones-32 ones fits =
+  pub ahead-zeros : (m : ℕ) → m ≤ 56 → w / 2 ^ (64 - m) + 1 ≡ 2 ^ m → i + m ≤ room → ReadsAhead w small index i start (record { count = m; bits = m }) start
+  ahead-zeros m few ones fits =
       record {
-        few = omega arith;
+        few = few;
         values = λ bytes end origin scale at held ahead.
-            entries-zeros bytes end origin scale small held index i at start 32 (λ j h. ahead-present bytes end w at 56 ahead j (omega arith))
-            (ahead-ones bytes end w at 56 ahead (omega arith) ones) (record { each = λ k h g. clear .each k h (omega arith) });
+            entries-zeros bytes end origin scale small held index i at start m (λ j h. ahead-present bytes end w at 56 ahead j (omega arith))
+            (ahead-ones bytes end w at 56 ahead m few ones) (record { each = λ k h g. clear .each k h (omega arith) });
       }
 
   module _ (x bits rest count : ℕ) (plane : List ℤ) (l : Lookup) (few : bits ≤ 48) (sofar : ReadsAhead w small index i start (record { count = x; bits = bits }) plane)

@@ -76,6 +76,6 @@ pub index-grows : (l : Layout) (i j : ℕ) → i < j → indexOf l i < indexOf l
 unfolding indexOf
 index-grows l i j less =
     let product : i * l .reciprocal ≤ j * l .reciprocal = mul-le-mul-right (l .reciprocal) (omega arith) in
-    let quotient : i * l .reciprocal / 65536 ≤ j * l .reciprocal / 65536 = omega arith in
-    let gaps : i * l .reciprocal / 65536 * l .gap ≤ j * l .reciprocal / 65536 * l .gap = mul-le-mul-right (l .gap) quotient in
+    let quotient : i * l .reciprocal / 16777216 ≤ j * l .reciprocal / 16777216 = omega arith in
+    let gaps : i * l .reciprocal / 16777216 * l .gap ≤ j * l .reciprocal / 16777216 * l .gap = mul-le-mul-right (l .gap) quotient in
     omega arith

@@ -28,7 +28,7 @@ after progress plane = record { progress = progress; plane = plane }
 
 -- The entry of the plane that value i of a layout goes to.
 unfoldable pub indexOf : Layout → ℕ → ℕ
-indexOf l i = l .start + i + i * l .reciprocal / 65536 * l .gap
+indexOf l i = l .start + i + i * l .reciprocal / 16777216 * l .gap
 
 -- Value i, which goes to entry `index i` of a plane; and n values from value i on.
 module _ (bytes : List ℕ) (end origin : ℕ) (scale index : ℕ → ℕ) where
@@ -44,8 +44,8 @@ pub record Clear (index : ℕ → ℕ) (i n : ℕ) (plane : List ℤ) : Type 0 w
 
 -- A layout has its entries in a plane, and those of values i and later hold zeros.
 pub record Ready (l : Layout) (i : ℕ) (plane : List ℤ) : Type 0 where
-  pub few : l .count ≤ 4096
-  pub low : l .reciprocal ≤ 65537
+  pub few : l .count ≤ 16777216
+  pub low : l .reciprocal ≤ 16777217
   pub counted : i ≤ l .count
   pub inside : (k : ℕ) → k < l .count → indexOf l k < length plane
   pub clear : Clear (indexOf l) i (l .count) plane

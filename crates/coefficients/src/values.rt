@@ -26,7 +26,7 @@ use lookups::lookup_at;
 use lookups::starts_with_ones;
 use lookups::window;
 
-// Where values go: value i to entry start + i + floor(i · reciprocal / 2^16) · gap, for i below count.
+// Where values go: value i to entry start + i + floor(i · reciprocal / 2^24) · gap, for i below count.
 pub struct Layout {
     pub start: usize,
     pub count: usize,
@@ -139,7 +139,8 @@ fn read_window(
     }
 }
 
-// Reads values by the bits of a window. How many is free: whatever the count, they are the values that the bits begin with.
+// Reads values by the bits of a window: all that are left, or 32 of them, at once where they are zeros. How many is free: whatever the count,
+// they are the values that the bits begin with.
 fn read_batch(
     plane: &mut [i32],
     layout: Layout,
@@ -148,19 +149,25 @@ fn read_batch(
     table: &[u16; 256],
     small: &[i32; 32],
 ) -> Batch
-    requires { ⌜ Ready layout from (now plane) × KnowsCodes (now table) ⌝ }
+    requires { ⌜ (from < layout .count) × Ready layout from (now plane) × KnowsCodes (now table) ⌝ }
     ensures { λ r. ⌜
         (from + r .count ≤ layout .count)
         × ReadsAhead window (now (small .entry)) (indexOf layout) from (now (plane .entry)) r (now (plane .exit))
         ⌝ }
 {
-    if 32 <= layout.count - from {
-        if starts_with_ones(window) {
+    let left = layout.count - from;
+    if left < 32 {
+        if starts_with_ones(window, left) {
             return Batch {
-                count: 32,
-                bits: 32,
+                count: left,
+                bits: left,
             };
         }
+    } else if starts_with_ones(window, 32) {
+        return Batch {
+            count: 32,
+            bits: 32,
+        };
     }
     read_lookups(plane, layout, from, window, table, small)
 }
@@ -215,13 +222,13 @@ fn read_lookups(
 
 // The entry that value i goes to. A single row needs no multiplication.
 fn index_at(layout: Layout, i: usize) -> usize
-    requires { ⌜ (i ≤ 4096) × (layout .reciprocal ≤ 65537) × (indexOf layout i < 2 ^ 64) ⌝ }
+    requires { ⌜ (i ≤ 16777216) × (layout .reciprocal ≤ 16777217) × (indexOf layout i < 2 ^ 64) ⌝ }
     ensures { λ r. ⌜ r ≡ indexOf layout i ⌝ }
 {
     if layout.reciprocal == 0 {
         return layout.start + i;
     }
-    layout.start + i + (i * layout.reciprocal / 65536) * layout.gap
+    layout.start + i + (i * layout.reciprocal / 16777216) * layout.gap
 }
 
 // Reads value i, if it is all there.

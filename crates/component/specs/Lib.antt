@@ -2,3 +2,4 @@ pub mod Sizes
 pub mod Subbands
 pub mod Partition
 pub mod Checks
+pub mod Reciprocal

@@ -160,11 +160,11 @@ module _ (bytes : List ℕ) (end w i n : ℕ) (ahead : Ahead bytes end w i n) wh
       ∙ ap (λ (k : ℕ). k / 2 ^ (n - m)) (ahead .top ∙ ap (bitsFrom bytes i) (sym whole) ∙ bits-split bytes i m (n - m))
       ∙ high (bitsFrom bytes i m) (n - m) (bits-small bytes (i + m) (n - m))
 
-  -- 32 ones
-  pub ahead-ones : 32 ≤ n → w / 2 ^ 32 ≡ 4294967295 → (j : ℕ) → j < 32 → bitAt bytes (i + j) ≡ 1
-  ahead-ones many ones =
-      let first = ahead-first 32 many in
-      all-ones bytes i 32 (omega arith)
+  -- m ones
+  pub ahead-ones : (m : ℕ) → m ≤ n → w / 2 ^ (64 - m) + 1 ≡ 2 ^ m → (j : ℕ) → j < m → bitAt bytes (i + j) ≡ 1
+  ahead-ones m fewer ones =
+      let first = ahead-first m fewer in
+      all-ones bytes i m (omega arith)
 
   -- those after the first b, once these are shifted out
   pub ahead-shift : (b : ℕ) → b ≤ n → Ahead bytes end (w * 2 ^ b % 2 ^ 64) (i + b) (n - b)

@@ -1,6 +1,6 @@
 // The next bits of data as one number, and what a table tells of eight of them.
 ghost use mathlib.Core.Path.{_≡_};
-ghost use Prim.Native.Nat.{_+_, _*_, _/_, _^_, _<_};
+ghost use Prim.Native.Nat.{_+_, _-_, _*_, _/_, _^_, _≤_, _<_};
 ghost use lib.Dec.{eqb};
 ghost use lib.ListN.{length};
 ghost use Rattle.lookups.specs.Lookups.{bitsFrom, isWindow, windowOf, KnowsCodes, Describes};
@@ -53,11 +53,12 @@ fn wide(byte: u8) -> u64
     byte as u64
 }
 
-// Whether a window starts with 32 ones, each the code of a 0.
-pub fn starts_with_ones(w: u64) -> bool
-    ensures { λ r. ⌜ r ≡ eqb (w / 2 ^ 32) 4294967295 ⌝ }
+// Whether a window starts with n ones, each the code of a 0.
+pub fn starts_with_ones(w: u64, n: usize) -> bool
+    requires { ⌜ (1 ≤ n) × (n ≤ 32) ⌝ }
+    ensures { λ r. ⌜ r ≡ eqb (w / 2 ^ (64 - n) + 1) (2 ^ n) ⌝ }
 {
-    w >> 32 == 4294967295
+    (w >> (64 - n)) + 1 == 1u64 << n
 }
 
 // What the table tells of the eight bits that start a window.

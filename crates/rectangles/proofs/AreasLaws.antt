@@ -38,12 +38,6 @@ in-area (suc n) h i below =
     let some : 0 < suc n = omega arith in
     record { some = omega arith; row-below = div-lt-iff-lt-mul some .1 below; column-below = mod-lt i some; whole = div-add-mod' i (suc n) }
 
--- its row starts no later than it, and less than a row before it
-pub area-place : {w h i row : ℕ} → InArea w h i → row ≡ i / w → (row * w ≤ i) × (i - row * w < w)
-area-place {w} {h} {i} {row} here e =
-    let rows : row * w ≡ i / w * w = ap (λ (n : ℕ). n * w) e in
-    (omega (arith, here .whole), omega (arith, here .whole, here .column-below))
-
 -- later values go to later entries
 pub value-index-grows : (a : Rectangle) (i j : ℕ) → a .width ≤ a .stride → i < j → j < sizeOf a → valueIndex a i < valueIndex a j
 unfolding valueIndex

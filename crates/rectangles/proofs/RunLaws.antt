@@ -1,10 +1,11 @@
--- Laws of values of a rectangle that are read in runs of whole rows: a run is a step, and leaves all other entries.
+-- Laws of values of a rectangle that are read in runs: a run is a step, and leaves all other entries.
 -- Assumes nothing.
 use mathlib.Core.Path.{_≡_, refl, sym, ap, _∙_}
 use mathlib.Core.Logic.{_≢_}
 use mathlib.Core.Bool.{true, false}
 use mathlib.Core.List.{List}
-use Prim.Native.Nat.{ℕ, _+_, _*_, _≤_, _<_}
+use Prim.Native.Nat.{ℕ, _+_, _-_, _≤_, _<_}
+use native.Mathlib.Decide.{decLt}
 use native.Mathlib.Omega.{arith}
 use lib.IntN.{ℤ, pos}
 use lib.ListN.{length, getD, set}
@@ -20,9 +21,9 @@ use Rattle.coefficients.specs.declared.reading.Progress.the-variants.{At}
 use Rattle.coefficients.specs.declared.reading.Rectangle.{Rectangle}
 use Rattle.coefficients.specs.declared.values.Layout.{Layout}
 use Rattle.coefficients.proofs.PortionLaws.{true-never}
-use Rattle.coefficients.proofs.ValuesLaws.{entries-keep}
+use Rattle.coefficients.proofs.ValuesLaws.{entries-keep, index-grows}
 use Rattle.rectangles.specs.Areas.{sizeOf, valueIndex, areaValues, Inside, ClearFrom, Covers, ReadsOn}
-use Rattle.rectangles.proofs.AreasLaws.{area-first, value-index-grows, value-index-inside}
+use Rattle.rectangles.proofs.AreasLaws.{area-first, inside-small, value-index-grows, value-index-inside}
 
 -- The same data, at another bit.
 abbrev pub moved : Cursor → ℕ → Cursor
@@ -57,33 +58,39 @@ so-far-none bytes c scale a from plane clear sound =
           omega (arith, sound .before-end);
     }
 
--- A run of a layout of whole rows, from value i on, which is value `column` of the layout.
-module _ (a : Rectangle) (row : ℕ) (l : Layout) (covers : Covers a row l) (i column : ℕ) (place : row * a .width + column ≡ i) where
+-- A run of a layout, from value i on.
+module _ (a : Rectangle) (i : ℕ) (l : Layout) (covers : Covers a i l) where
   -- its values are the rectangle's
-  run-values : (bytes : List ℕ) (end origin : ℕ) (scale : ℕ → ℕ) (n : ℕ) (r : Run) → column + n ≤ l .count →
-      entries bytes end origin scale (valueIndex a) i n r ≡ entries bytes end origin scale (indexOf l) column n r
+  run-values : (bytes : List ℕ) (end origin : ℕ) (scale : ℕ → ℕ) (n : ℕ) (r : Run) → i + n ≤ l .count →
+      entries bytes end origin scale (valueIndex a) i n r ≡ entries bytes end origin scale (indexOf l) i n r
   unfolding entries entry
   run-values bytes end origin scale n r inside =
-      walk-same (λ k. value bytes end origin scale (λ v plane. set plane (valueIndex a k) v)) (λ k. value bytes end origin scale (λ v plane. set plane (indexOf l k) v)) i column n r
-      (λ k below t.
-      let there : i + k ≡ row * a .width + (column + k) = omega arith in
-      let same : valueIndex a (i + k) ≡ indexOf l (column + k) = ap (valueIndex a) there ∙ sym (covers .each (column + k) (omega arith)) in
-      ap (λ (x : ℕ). value bytes end origin scale (λ v plane. set plane x v) t) same)
+      walk-same (λ k. value bytes end origin scale (λ v plane. set plane (valueIndex a k) v)) (λ k. value bytes end origin scale (λ v plane. set plane (indexOf l k) v)) i i n r
+      (λ k below t. ap (λ (x : ℕ). value bytes end origin scale (λ v plane. set plane x v) t) (sym (covers .each (i + k) (omega arith) (omega arith))))
 
   -- it can be read
-  pub run-ready : (plane : List ℤ) → Inside a plane → ClearFrom a i plane → column ≤ l .count → Ready l column plane
-  run-ready plane inside clear counted =
+  pub run-ready : (plane : List ℤ) → Inside a plane → ClearFrom a i plane → Ready l i plane
+  run-ready plane inside clear =
+      let least = covers .some in
+      let last : l .count - 1 < sizeOf a = omega (arith, covers .few) in
+      let end : indexOf l (l .count - 1) < length plane = rw (covers .each (l .count - 1) (omega arith) (omega arith)) (value-index-inside a plane (l .count - 1) inside last) in
       record {
-        few = covers .few;
+        few = omega (arith, covers .few, inside-small inside);
         low = covers .low;
-        counted = counted;
-        inside = λ k below. rw (covers .each k below) (value-index-inside a plane (row * a .width + k) inside (omega (arith, covers .inside)));
+        counted = omega arith;
+        inside = λ k below.
+            elim (decLt k (l .count - 1)) [
+              | yes earlier ↦ omega (arith, index-grows l k (l .count - 1) earlier)
+              | no notEarlier ↦
+                  let same : k ≡ l .count - 1 = omega arith in
+                  rw same end
+            ];
         clear = record {
-          each = λ k late below. rw (covers .each k below) (clear .each (row * a .width + k) (omega arith) (omega (arith, covers .inside)));
+          each = λ k late below. rw (covers .each k late below) (clear .each k late (omega (arith, covers .few)));
         };
       }
 
-  module _ (bytes : List ℕ) (c : Cursor) (scale : ℕ → ℕ) (bit : ℕ) (plane : List ℤ) (r : Portion) (last : List ℤ) (reads : Reads bytes (moved c bit) scale (indexOf l) column plane r last) (short : column + r .count ≤ l .count) where
+  module _ (bytes : List ℕ) (c : Cursor) (scale : ℕ → ℕ) (bit : ℕ) (plane : List ℤ) (r : Portion) (last : List ℤ) (reads : Reads bytes (moved c bit) scale (indexOf l) i plane r last) (short : i + r .count ≤ l .count) where
     -- the portion as values of the rectangle
     run-read : (whole : List ℕ) (end : ℕ) → Begins (c .stated) bytes (c .end) whole end →
         entries whole end (c .origin) scale (valueIndex a) i (r .count) (goesOn bit plane) ≡ after (r .progress) last
@@ -99,14 +106,14 @@ module _ (a : Rectangle) (row : ℕ) (l : Layout) (covers : Covers a row l) (i c
     run-step : (whole : List ℕ) (end : ℕ) → Begins (c .stated) bytes (c .end) whole end →
         areaValues whole end (c .origin) scale a i (goesOn bit plane) ≡ areaValues whole end (c .origin) scale a (i + r .count) (after (r .progress) last)
     run-step whole end begins =
-        area-first whole end (c .origin) scale a i (r .count) (goesOn bit plane) (omega (arith, covers .inside))
+        area-first whole end (c .origin) scale a i (r .count) (goesOn bit plane) (omega (arith, covers .few))
         ∙ ap (areaValues whole end (c .origin) scale a (i + r .count)) (run-read whole end begins)
 
     -- so the values are read up to the last of the run
     pub so-far-on : (from : ℕ) (first : List ℤ) → a .width ≤ a .stride → SoFar bytes c scale a from first (At bit) i plane → length last ≡ length plane →
         SoFar bytes c scale a from first (r .progress) (i + r .count) last
     so-far-on from first wide sofar same =
-        let room : i + r .count ≤ sizeOf a = omega (arith, covers .inside) in
+        let room : i + r .count ≤ sizeOf a = omega (arith, covers .few) in
         record {
           values = λ whole end begins. sofar .values whole end begins ∙ run-step whole end begins;
           onward = omega (arith, sofar .onward);

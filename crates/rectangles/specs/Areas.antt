@@ -2,9 +2,8 @@
 use Prim.Native.Nat.{ℕ, _+_, _-_, _*_, _/_, _%_, _≤_, _<_}
 use mathlib.Core.Path.{_≡_}
 use mathlib.Core.Logic.{_≢_}
-use mathlib.Core.Bool.{true, false, cond, _||_}
+use mathlib.Core.Bool.{true, false}
 use mathlib.Core.List.{List}
-use lib.Dec.{ltb, leb}
 use lib.IntN.{ℤ, pos}
 use lib.ListN.{length, getD}
 use Rattle.exp_golomb.specs.Begins.{Begins}
@@ -38,17 +37,12 @@ pub record Inside (a : Rectangle) (plane : List ℤ) : Type 0 where
 abbrev pub ClearFrom : Rectangle → ℕ → List ℤ → Type 0
 ClearFrom a i plane = Clear (valueIndex a) i (sizeOf a) plane
 
--- 2^16 over the width, rounded down, and one more, where rows are short; else 0.
-unfoldable pub reciprocalOf : Rectangle → ℕ
-reciprocalOf a = cond (ltb 64 (a .width) || leb (a .height) 1) 0 (65536 / a .width + 1)
-
--- A layout has the values of whole rows, from one on.
-pub record Covers (a : Rectangle) (row : ℕ) (l : Layout) : Type 0 where
-  pub some : a .width ≤ l .count
-  pub few : l .count ≤ 4096
-  pub low : l .reciprocal ≤ 65537
-  pub inside : row * a .width + l .count ≤ sizeOf a
-  pub each : (i : ℕ) → i < l .count → indexOf l i ≡ valueIndex a (row * a .width + i)
+-- A layout has the values of a rectangle from value i on, up to its count.
+pub record Covers (a : Rectangle) (i : ℕ) (l : Layout) : Type 0 where
+  pub some : i < l .count
+  pub few : l .count ≤ sizeOf a
+  pub low : l .reciprocal ≤ 16777217
+  pub each : (k : ℕ) → i ≤ k → k < l .count → indexOf l k ≡ valueIndex a k
 
 -- Values of a rectangle from value `from` on were read into a plane, up to the portion's count, whatever data begin with those at hand.
 pub record ReadsOn (bytes : List ℕ) (c : Cursor) (scale : ℕ → ℕ) (a : Rectangle) (from : ℕ) (plane : List ℤ) (r : Portion) (last : List ℤ) : Type 0 where

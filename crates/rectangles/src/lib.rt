@@ -1,9 +1,8 @@
 // Document 01, "One subband": the values of a rectangle of a plane, in raster order.
-ghost use mathlib.Core.Path.{_≡_};
-ghost use Prim.Native.Nat.{_+_, _*_, _/_, _≤_, _<_};
+ghost use Prim.Native.Nat.{_≤_, _<_, _^_};
 ghost use Rattle.coefficients.specs.Values.{Decoding, Sound};
 ghost use Rattle.coefficients.specs.Scaling.{scaleOf};
-ghost use Rattle.rectangles.specs.Areas.{Inside, ClearFrom, reciprocalOf, Covers, ReadsOn};
+ghost use Rattle.rectangles.specs.Areas.{sizeOf, valueIndex, Inside, ClearFrom, Covers, ReadsOn};
 use coefficients::quantiser::Quantiser;
 use coefficients::reading::Cursor;
 use coefficients::reading::Portion;
@@ -31,10 +30,8 @@ pub fn read_values(
     let mut next = cursor;
     let mut i = from;
     while i < total {
-        let row = row_of(i, area.width);
-        let layout = layout_of(area, row);
-        let column = i - row * area.width;
-        let part = read_run(plane, layout, column, bytes, next, q, table, small);
+        let layout = layout_of(area, i);
+        let part = read_run(plane, layout, i, bytes, next, q, table, small);
         i += part.count;
         let progress = part.progress;
         let Progress::At { bit } = progress else {
@@ -60,60 +57,26 @@ pub fn read_values(
     }
 }
 
-// The row of value i. The first needs no division.
-fn row_of(i: usize, width: usize) -> usize
-    requires { ⌜ 1 ≤ width ⌝ }
-    ensures { λ r. ⌜ r ≡ i / width ⌝ }
+// Where the values from value i on go that are read in one run: all that are left where rows are short, else those of the row. A value stands
+// after as many gaps as there are rows before its own; in one row that is a number, in more it takes a multiplication.
+fn layout_of(area: Rectangle, i: usize) -> Layout
+    requires { ⌜ (area .width ≤ area .stride) × (area .stride ≤ 4096) × (area .height ≤ 4096) × (i < sizeOf area) × (valueIndex area i < 2 ^ 64) ⌝ }
+    ensures { λ r. ⌜ Covers area i r ⌝ }
 {
-    if i == 0 {
-        return 0;
+    let gap = area.stride - area.width;
+    if area.width <= 64 {
+        return Layout {
+            start: area.start,
+            count: area.height * area.width,
+            reciprocal: 16777216 / area.width + 1,
+            gap,
+        };
     }
-    i / width
-}
-
-// The values from a row on that are read in one run: those of the row alone, or, where rows are short, of up to 16 rows.
-fn layout_of(area: Rectangle, row: usize) -> Layout
-    requires { ⌜
-        (1 ≤ area .width) × (area .width ≤ 4096) × (area .width ≤ area .stride)
-        × (row < area .height) × (area .height ≤ 4096) × (area .start + row * area .stride < 18446744073709551616)
-        ⌝ }
-    ensures { λ r. ⌜ Covers area row r ⌝ }
-{
-    let reciprocal = reciprocal_of(area);
-    let rows = rows_of(area, row, reciprocal);
+    let row = i / area.width;
     Layout {
-        start: area.start + row * area.stride,
-        count: rows * area.width,
-        reciprocal,
-        gap: area.stride - area.width,
+        start: area.start + row * gap,
+        count: (row + 1) * area.width,
+        reciprocal: 0,
+        gap,
     }
-}
-
-// 2^16 over the width, rounded down, and one more, where rows are short; else 0.
-fn reciprocal_of(area: Rectangle) -> usize
-    requires { ⌜ 1 ≤ area .width ⌝ }
-    ensures { λ r. ⌜ r ≡ reciprocalOf area ⌝ }
-{
-    if 64 < area.width {
-        return 0;
-    }
-    if area.height <= 1 {
-        return 0;
-    }
-    65536 / area.width + 1
-}
-
-// How many rows are read in one run.
-fn rows_of(area: Rectangle, row: usize, reciprocal: usize) -> usize
-    requires { ⌜ row < area .height ⌝ }
-    ensures { λ r. ⌜ (1 ≤ r) × (r ≤ 16) × (row + r ≤ area .height) × (reciprocal ≡ 0 → r ≡ 1) ⌝ }
-{
-    if reciprocal == 0 {
-        return 1;
-    }
-    let left = area.height - row;
-    if left < 16 {
-        return left;
-    }
-    16
 }

@@ -62,7 +62,7 @@ pub fn row_parameters(random: &mut Random) -> Parameters {
 /// or counts near the subband's sizes and above.
 pub fn rectangle_parameters(random: &mut Random) -> Parameters {
     const WIDTHS: [u32; 10] = [1, 2, 15, 16, 17, 62, 63, 64, 65, 66];
-    const HEIGHTS: [u32; 13] = [1, 2, 3, 14, 15, 16, 17, 30, 31, 32, 33, 34, 48];
+    const HEIGHTS: [u32; 7] = [1, 1, 2, 3, 16, 33, 48];
     if random.range(0, 2) == 0 {
         return two_codeblocks(random);
     }
@@ -89,12 +89,13 @@ fn rectangle(random: &mut Random, width: u32, height: u32, depth: u32) -> Parame
 }
 
 /// Parameters of two codeblocks side by side, with about the longest rows that are read together, or any
-/// shorter ones, and about as many rows as are read together once or twice.
+/// shorter ones, and many rows.
 fn two_codeblocks(random: &mut Random) -> Parameters {
     let (border, any) = (random.range(62, 66), random.range(1, 66));
     let width = 2 * random.pick(&[border, any, any]) + random.range(0, 1);
-    let height = random.pick(&[15, 16, 17, 31, 32, 33]);
-    let mut p = rectangle(random, width as u32, height, 0);
+    let any = random.range(17, 32);
+    let height = random.pick(&[16, 33, any]);
+    let mut p = rectangle(random, width as u32, height as u32, 0);
     p.codeblocks_across[0] = 2;
     p
 }

@@ -1,6 +1,6 @@
-//! Bodies for the borders of a reader that takes the values of many short rows as one run: rows of up
-//! to 64 values, up to 16 of them at a time. So numbers stand at the ends of rows, zeros end about the
-//! end of a run, go on past it or fill it, and data ends inside them.
+//! Bodies for the borders of a reader that takes the values of short rows, those of up to 64, as one run.
+//! So numbers stand at the ends of rows, zeros end about the end of a run, go on past it or fill it, and
+//! data ends inside them.
 
 use crate::borders::{
     body_of_bands, number_of_code, number_that_fits, put_runs, with_other_data, with_other_end,
@@ -9,9 +9,8 @@ use reference::params::{padded_width, Parameters, Subband};
 use reference::random::Random;
 use reference::unpack::codeblock_start;
 
-/// The widest rows that are read many at once, and how many of them.
+/// The widest rows that are read as one run.
 const SHORT_ROW: usize = 64;
-const ROWS_AT_ONCE: usize = 16;
 
 /// From this quantiser index on, numbers are chosen so that they fit 32 bits.
 const LARGE_INDEX: u32 = 104;
@@ -32,13 +31,10 @@ fn runs(p: &Parameters, band: &Subband) -> Vec<Run> {
             .map(|y| (band.top + y) * padded_width(p) + band.left)
             .map(|start| (start + columns.start..start + columns.end).collect())
             .collect();
-        let at_once = if columns.len() > SHORT_ROW {
-            1
-        } else {
-            ROWS_AT_ONCE
-        };
-        if !columns.is_empty() {
-            list.extend(rows.chunks(at_once).map(<[Vec<usize>]>::to_vec));
+        if columns.len() > SHORT_ROW {
+            list.extend(rows.into_iter().map(|row| vec![row]));
+        } else if !columns.is_empty() && !rows.is_empty() {
+            list.push(rows);
         }
     }
     list
@@ -64,22 +60,37 @@ fn put_row_ends(random: &mut Random, run: &Run, index: u32, quantised: &mut [i64
     }
 }
 
-/// How many zeros stand between a run's last number and its end.
-fn random_tail(random: &mut Random) -> usize {
-    let (near, any) = (random.range(30, 34), random.range(0, 24));
-    random.pick(&[0, near, near, any, any]) as usize
-}
-
 /// Puts numbers with runs of zeros between them up to one near the end; none where that has no place.
 fn put_numbers(random: &mut Random, run: &Run, index: u32, quantised: &mut [i64]) {
     let places = run.concat();
-    let Some(last) = places.len().checked_sub(1 + random_tail(random)) else {
+    let tail = random.range(0, 19) as usize;
+    let Some(last) = places.len().checked_sub(1 + tail) else {
         return;
     };
     put_runs(random, &places[..last], quantised, |random| {
         random_number(random, index)
     });
     quantised[places[last]] = random_number(random, index);
+}
+
+/// Puts a number with a long code, so that a reader takes up the data anew behind it, where 1 to 35 values
+/// are left; they are zeros, or zeros but for one of the last two.
+fn put_tail(random: &mut Random, run: &Run, index: u32, quantised: &mut [i64]) {
+    let places = run.concat();
+    let (near, any) = (random.range(31, 33), random.range(1, 35));
+    let left = random.pick(&[near, any, any]) as usize;
+    let Some(before) = places.len().checked_sub(1 + left) else {
+        return;
+    };
+    let number = match index {
+        LARGE_INDEX.. => number_that_fits(random, index),
+        _ => number_of_code(random, 10),
+    };
+    quantised[places[before]] = number;
+    let from_end = random.range(-2, 2);
+    if (1..=left as i64).contains(&from_end) {
+        quantised[places[places.len() - from_end as usize]] = random_number(random, index);
+    }
 }
 
 /// Puts a number at every place.
@@ -93,9 +104,10 @@ fn put_everywhere(random: &mut Random, run: &Run, index: u32, quantised: &mut [i
 fn fill(random: &mut Random, p: &Parameters, band: &Subband, index: u32, quantised: &mut [i64]) {
     for run in runs(p, band) {
         match random.range(0, 15) {
-            0..=5 => put_row_ends(random, &run, index, quantised),
-            6..=12 => put_numbers(random, &run, index, quantised),
-            13 => put_everywhere(random, &run, index, quantised),
+            0..=4 => put_row_ends(random, &run, index, quantised),
+            5..=9 => put_numbers(random, &run, index, quantised),
+            10..=13 => put_tail(random, &run, index, quantised),
+            14 => put_everywhere(random, &run, index, quantised),
             _ => (),
         }
     }

@@ -3,6 +3,7 @@
 -- Assumes nothing.
 use native.Mathlib.Omega.{arith}
 use borrow.Author.Needs.{needs}
+use Rattle.component.proofs.PartitionLaws.{reciprocal-small}
 use Rattle.codeblocks.proofs.BlockLaws.{column-before, Beside, beside}
 use Rattle.codeblocks.proofs.next_block.Statement.{statement}
 use Rattle.codeblocks.proofs.next_block.Tie as tie
@@ -18,25 +19,28 @@ block-at-requires c κs = search needs
 returns : tie.Need-returns
 returns c = search needs
 
-add-part-start : tie.Need-add-part-start
-add-part-start c = search needs
+add-part-start-by : tie.Need-add-part-start-by
+add-part-start-by c = search needs
 
-part-start-requires : tie.Need-part-start-requires
-part-start-requires c κs = search needs
+part-start-by-requires : tie.Need-part-start-by-requires
+part-start-by-requires c κs =
+    let start = c .before .before .before .before in
+    let counted = start .pre .0 in
+    (omega (arith, counted .wide, counted .narrow), omega (arith, start .pre .3, reciprocal-small (start .args .blocks .across)), omega (arith, c .before .if1 .left, counted .across-most))
 
 -- the codeblock goes on in its row
-in-row : (c : tie.After-part-start) →
+in-row : (c : tie.After-part-start-by) →
     let start = c .before .before .before .before .before in
-    Beside (start .args .blocks) (start .args .m) (start .args .before) (c .part-start .result)
+    Beside (start .args .blocks) (start .args .m) (start .args .before) (c .part-start-by .result)
 in-row c =
     let start = c .before .before .before .before .before in
-    beside (start .args .blocks) (start .pre .0) (start .args .m) (start .args .before) _ (start .pre .1) (start .pre .2) (omega (arith, c .before .before .if1 .left)) (c .part-start .ensures)
+    beside (start .args .blocks) (start .pre .0) (start .args .m) (start .args .before) _ (start .pre .1) (start .pre .2) (omega (arith, c .before .before .if1 .left)) (c .part-start-by .ensures _ (start .pre .0 .across-least) (start .pre .0 .across-most) (start .pre .3))
 
-add-t10 : tie.Need-add-t10
-add-t10 c = omega (arith, in-row (c .before .before) .small)
+add-t11 : tie.Need-add-t11
+add-t11 c = omega (arith, in-row (c .before .before) .small)
 
-sub-t11 : tie.Need-sub-t11
-sub-t11 c = in-row (c .before .before .before) .forward
+sub-t12 : tie.Need-sub-t12
+sub-t12 c = in-row (c .before .before .before) .forward
 
 returns-2 : tie.Need-returns-2
 returns-2 c = in-row (c .before .before .before) .block-is
@@ -48,8 +52,8 @@ next-block-spec =
     add-x
     block-at-requires
     returns
-    add-part-start
-    part-start-requires
-    add-t10
-    sub-t11
+    add-part-start-by
+    part-start-by-requires
+    add-t11
+    sub-t12
     returns-2)

@@ -1,39 +1,92 @@
--- `rectangles::layout_of` meets its contract by the law of a layout of whole rows.
+-- `rectangles::layout_of` meets its contract by the laws of layouts: short rows, or one row.
 -- Assumes nothing.
-use native.Mathlib.Nat.{mul-le-mul}
+use mathlib.Core.Path.{refl}
+use Prim.Native.Nat.{_+_, _-_, _*_, _/_, _%_, _≤_, _<_, _^_}
+use native.Mathlib.Nat.{mul-le-mul, div-le-self}
 use native.Mathlib.Omega.{arith}
 use borrow.Author.Needs.{needs}
-use Rattle.rectangles.proofs.LayoutLaws.{covers-rows}
+use Rattle.rectangles.specs.Areas.{sizeOf, valueIndex}
+use Rattle.rectangles.proofs.AreasLaws.{InArea, in-area, raster-index}
+use Rattle.rectangles.proofs.LayoutLaws.{covers-all, covers-row}
 use Rattle.rectangles.proofs.layout_of.Statement.{statement}
 use Rattle.rectangles.proofs.layout_of.Tie as tie
 
-reciprocal-of-requires : tie.Need-reciprocal-of-requires
-reciprocal-of-requires c κs = search needs
+-- the value is one of the rectangle
+here : (c : tie.Start) → InArea (c .args .area .width) (c .args .area .height) (c .args .i)
+here c = in-area _ _ _ (c .pre .3)
 
-rows-of-requires : tie.Need-rows-of-requires
-rows-of-requires c κs = search needs
+small : (c : tie.Start) → sizeOf (c .args .area) ≤ 4096 * 4096
+small c =
+    let narrow : c .args .area .width ≤ 4096 = omega (arith, c .pre .0, c .pre .1) in
+    mul-le-mul (c .pre .2) narrow
 
-mul-t5 : tie.Need-mul-t5
-mul-t5 c = search needs
+sub-gap : tie.Need-sub-gap
+sub-gap c = search needs
 
-add-t6 : tie.Need-add-t6
-add-t6 c = search needs
+mul-t6 : tie.Need-mul-t6
+mul-t6 c = omega (arith, small (c .before .before .before .before))
 
-mul-t7 : tie.Need-mul-t7
-mul-t7 c =
-    let start = c .before .before .before .before .before in
-    let rows = c .before .before .before .rows-of in
-    omega (arith, mul-le-mul (rows .ensures .1) (start .pre .1))
+div-t7 : tie.Need-div-t7
+div-t7 c = omega (arith, here (c .before .before .before .before .before) .some)
 
-sub-t8 : tie.Need-sub-t8
-sub-t8 c = search needs
+add-t8 : tie.Need-add-t8
+add-t8 c = omega (arith, div-le-self 16777216 (c .before .before .before .before .before .args .area .width))
 
 returns : tie.Need-returns
 returns c =
+    let start = c .before .before .before .before .before in
+    covers-all _ (start .pre .0) _ (start .pre .3) (omega (arith, c .before .before .if1 .taken)) (start .pre .2)
+
+div-row : tie.Need-div-row
+div-row c = search needs
+
+-- its row, and the gaps before it
+row-small : (c : tie.Start) → c .args .i / c .args .area .width + 1 ≤ 4096
+row-small c = omega (arith, here c .row-below, c .pre .2)
+
+mul-t9 : tie.Need-mul-t9
+mul-t9 c =
+    let start = c .before .before .before .before in
+    let row : start .args .i / start .args .area .width ≤ 4096 = omega (arith, row-small start) in
+    let gap : start .args .area .stride - start .args .area .width ≤ 4096 = omega (arith, start .pre .1) in
+    omega (arith, mul-le-mul row gap)
+
+-- the value's entry has room
+room : (c : tie.Start) → c .args .area .start + c .args .i / c .args .area .width * c .args .area .stride + c .args .i % c .args .area .width < 2 ^ 64
+unfolding valueIndex
+room c = c .pre .4
+
+add-t10 : tie.Need-add-t10
+add-t10 c =
+    let start = c .before .before .before .before .before in
+    omega (arith, room start, raster-index (start .args .area .width) (start .args .area .stride) (start .args .i) (start .pre .0))
+
+add-t11 : tie.Need-add-t11
+add-t11 c = omega (arith, row-small (c .before .before .before .before .before))
+
+mul-t12 : tie.Need-mul-t12
+mul-t12 c =
     let start = c .before .before .before .before .before .before in
-    let rows = c .before .before .before .before .rows-of in
-    let reciprocal = c .before .before .before .before .before .reciprocal-of in
-    covers-rows _ _ _ (start .pre .0) (start .pre .1) (start .pre .2) (rows .ensures .0) (rows .ensures .1) (rows .ensures .2) _ (reciprocal .ensures) (rows .ensures .3)
+    let narrow : start .args .area .width ≤ 4096 = omega (arith, start .pre .0, start .pre .1) in
+    omega (arith, mul-le-mul (row-small start) narrow)
+
+returns-2 : tie.Need-returns-2
+returns-2 c =
+    let start = c .before .before .before .before .before .before in
+    covers-row _ (start .pre .0) _ (start .pre .3) _ refl
 
 pub layout-of-spec : {M : Type 1} → statement M
-layout-of-spec = tie.close (tie.spec reciprocal-of-requires rows-of-requires mul-t5 add-t6 mul-t7 sub-t8 returns)
+layout-of-spec =
+    tie.close
+    (tie.spec
+    sub-gap
+    mul-t6
+    div-t7
+    add-t8
+    returns
+    div-row
+    mul-t9
+    add-t10
+    add-t11
+    mul-t12
+    returns-2)

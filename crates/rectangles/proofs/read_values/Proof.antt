@@ -1,4 +1,4 @@
--- `rectangles::read_values` meets its contract: at the loop's head the values up to i have been read, and each run of rows is a step.
+-- `rectangles::read_values` meets its contract: at the loop's head the values up to i have been read, and each run is a step.
 -- Assumes nothing.
 use mathlib.Core.Path.{_≡_, refl, sym, ap, _∙_}
 use Prim.Native.Nat.{_+_, _-_, _*_, _≤_, _<_}
@@ -9,7 +9,7 @@ use Rattle.coefficients.specs.Values.{indexOf, Reads}
 use Rattle.coefficients.specs.declared.reading.Cursor.{Cursor}
 use Rattle.coefficients.specs.declared.reading.Progress.the-variants.{At}
 use Rattle.coefficients.proofs.PortionLaws.{refused-never}
-use Rattle.rectangles.proofs.AreasLaws.{InArea, in-area, area-place, inside-narrow, inside-small, inside-same}
+use Rattle.rectangles.proofs.AreasLaws.{inside-small, inside-same, value-index-inside}
 use Rattle.rectangles.proofs.RunLaws.{moved, moved-sound, SoFar, so-far-none, run-ready, so-far-on, reads-over, reads-short}
 use Rattle.rectangles.proofs.read_values.Statement.{statement}
 use Rattle.rectangles.proofs.read_values.Tie as tie
@@ -21,10 +21,6 @@ Inv-loop plane₀ area from bytes q table small total next₀ i₀ plane next i 
 abbrev μ-loop : tie.MeasureT-loop
 μ-loop plane₀ area from bytes q table small total next₀ i₀ plane next i = total - i
 
--- the value is one of the rectangle
-here : (c : tie.In-loop Inv-loop μ-loop) → let area = c .before .before .before .before .args .area in InArea (area .width) (area .height) (c .before .loop .i)
-here c = in-area _ _ _ (omega arith)
-
 mul-total : tie.Need-mul-total Inv-loop μ-loop
 mul-total c = omega (arith, inside-small (c .before .before .pre .0))
 
@@ -33,44 +29,24 @@ loop-holds c =
     let start = c .before .before in
     (refl, so-far-none _ _ _ _ _ _ (start .pre .1) (start .pre .2))
 
-row-of-requires : tie.Need-row-of-requires Inv-loop μ-loop
-row-of-requires c κs = here c .some
-
 layout-of-requires : tie.Need-layout-of-requires Inv-loop μ-loop
 layout-of-requires c κs =
-    let inside = c .before .before .before .before .before .pre .0 in
-    let below : c .row-of .result < c .before .before .before .before .before .args .area .height = omega (arith, here (c .before) .row-below, c .row-of .ensures) in
-    (here (c .before) .some, inside-narrow inside, inside .wide, below, inside .tall, omega (arith, inside .rows _ below))
-
--- its row, and its column there
-place : (c : tie.After-layout-of Inv-loop μ-loop) →
-    let width = c .before .before .before .before .before .before .args .area .width in
-    let i = c .before .before .before .loop .i in
-    let row = c .before .row-of .result in
-    (row * width ≤ i) × (i - row * width < width)
-place c = area-place (here (c .before .before)) (c .before .row-of .ensures)
-
-mul-column : tie.Need-mul-column Inv-loop μ-loop
-mul-column c = omega (arith, place (c .before) .0, inside-small (c .before .before .before .before .before .before .before .pre .0))
-
-sub-column : tie.Need-sub-column Inv-loop μ-loop
-sub-column c = omega (arith, place (c .before) .0)
+    let inside = c .before .before .before .before .pre .0 in
+    (inside .wide, inside .narrow, inside .tall, omega arith, omega (arith, value-index-inside _ _ (c .before .loop .i) inside (omega arith)))
 
 read-run-requires : tie.Need-read-run-requires Inv-loop μ-loop
 read-run-requires c κs =
-    let laid = c .before .before in
-    let start = laid .before .before .before .before .before .before in
-    let loop = laid .before .before .before .loop in
-    let covers = laid .layout-of .ensures in (
-      run-ready _ _ _ covers (loop .i) _ (omega (arith, place laid .0)) _ (inside-same (loop .inv .1 .same-length) (start .pre .0)) (loop .inv .1 .clear) (omega (arith, place laid .1, covers .some)),
+    let start = c .before .before .before .before .before .before in
+    let loop = c .before .before .before .loop in (
+      run-ready _ _ _ (c .before .layout-of .ensures) _ (inside-same (loop .inv .1 .same-length) (start .pre .0)) (loop .inv .1 .clear),
       rw (loop .inv .0) (moved-sound _ _ (loop .inv .1 .before-end _ refl) (start .pre .2)),
       start .pre .3,
     )
 
 add-i : tie.Need-add-i Inv-loop μ-loop
 add-i c =
-    let laid = c .before .before .before .before .before in
-    omega (arith, place laid .0, laid .layout-of .ensures .inside, c .before .before .read-run .ensures .1 .0, inside-small (laid .before .before .before .before .before .before .pre .0))
+    let start = c .before .before .before .before .before .before .before .before .before in
+    omega (arith, c .before .before .before .before .layout-of .ensures .few, c .before .before .read-run .ensures .1 .0, inside-small (start .pre .0))
 
 enum-known-progress : tie.Need-enum-known-progress Inv-loop μ-loop
 enum-known-progress c = search needs
@@ -79,25 +55,23 @@ enum-told : tie.Need-enum-told Inv-loop μ-loop
 enum-told c = search needs
 
 -- what the run read, of the data that the cursor has
-reads-run : (c : tie.After-struct-known3 Inv-loop μ-loop) →
-    let laid = c .before .before .before .before .before in
-    let args = laid .before .before .before .before .before .before .args in
-    let loop = laid .before .before .before .loop in
+reads-run : (c : tie.After-struct-known2 Inv-loop μ-loop) →
+    let args = c .before .before .before .before .before .before .before .before .before .args in
+    let loop = c .before .before .before .before .before .before .loop in
     let run = c .before .before .read-run in
-    Reads (args .bytes .now) (moved (args .cursor) (loop .next .bit)) (scaleOf (args .q)) (indexOf (laid .layout-of .result)) (loop .i - laid .before .row-of .result * args .area .width) (loop .plane) (run .result) (run .last .0)
-reads-run c = rw (c .before .before .before .before .before .before .before .before .loop .inv .0) at (c .before .before .read-run .ensures .0)
+    Reads (args .bytes .now) (moved (args .cursor) (loop .next .bit)) (scaleOf (args .q)) (indexOf (c .before .before .before .before .layout-of .result)) (loop .i) (loop .plane) (run .result) (run .last .0)
+reads-run c = rw (c .before .before .before .before .before .before .loop .inv .0) at (c .before .before .read-run .ensures .0)
 
 -- so the run is a step
-step : (c : tie.After-struct-known3 Inv-loop μ-loop) →
-    let args = c .before .before .before .before .before .before .before .before .before .before .before .args in
+step : (c : tie.After-struct-known2 Inv-loop μ-loop) →
+    let args = c .before .before .before .before .before .before .before .before .before .args in
     let run = c .before .before .read-run in
-    SoFar (args .bytes .now) (args .cursor) (scaleOf (args .q)) (args .area) (args .from) (args .plane .now) (run .result .progress) (c .before .before .before .before .before .before .before .before .loop .i + run .result .count) (run .last .0)
+    SoFar (args .bytes .now) (args .cursor) (scaleOf (args .q)) (args .area) (args .from) (args .plane .now) (run .result .progress) (c .before .before .before .before .before .before .loop .i + run .result .count) (run .last .0)
 step c =
-    let laid = c .before .before .before .before .before in
-    let start = laid .before .before .before .before .before .before in
-    let loop = laid .before .before .before .loop in
+    let start = c .before .before .before .before .before .before .before .before .before in
+    let loop = c .before .before .before .before .before .before .loop in
     let run = c .before .before .read-run in
-    so-far-on (start .args .area) _ _ (laid .layout-of .ensures) (loop .i) _ (omega (arith, place laid .0)) _ _ _ _ _ _ _ (reads-run c) (run .ensures .1 .0) _ _ (start .pre .0 .wide) (loop .inv .1) (run .kept .0)
+    so-far-on (start .args .area) (loop .i) _ (c .before .before .before .before .layout-of .ensures) _ _ _ _ _ _ _ (reads-run c) (run .ensures .1 .0) _ _ (start .pre .0 .wide) (loop .inv .1) (run .kept .0)
 
 same-length : tie.Need-same-length Inv-loop μ-loop
 same-length c = step (c .before .before) .same-length
@@ -116,14 +90,13 @@ returns-2 c =
 loop-less : tie.Need-loop-less Inv-loop μ-loop
 loop-less c =
     let run = c .before .before .before .before .before .before .read-run in
-    let laid = c .before .before .before .before .before .before .before .before .before in
-    let covers = laid .layout-of .ensures in
-    omega (arith, run .ensures .1 .1 _ (c .before .before .progress .given .1) (c .if1 .left), place laid .1, covers .some)
+    let covers = c .before .before .before .before .before .before .before .before .layout-of .ensures in
+    omega (arith, run .ensures .1 .1 _ (c .before .before .progress .given .1) (c .if1 .left), covers .some)
 
 loop-again : tie.Need-loop-again Inv-loop μ-loop
 loop-again c =
     let bit = c .before .before .progress .given .0 .0 in
-    (ap (λ (n : Cursor). moved n bit) (c .before .before .before .before .before .before .before .before .before .before .before .before .loop .inv .0), rw (c .before .before .progress .given .1) at (step (c .before .before .before .before)))
+    (ap (λ (n : Cursor). moved n bit) (c .before .before .before .before .before .before .before .before .before .before .loop .inv .0), rw (c .before .before .progress .given .1) at (step (c .before .before .before .before)))
 
 same-length-3 : tie.Need-same-length-3 Inv-loop μ-loop
 same-length-3 c = c .before .loop .inv .1 .same-length
@@ -139,10 +112,7 @@ read-values-spec =
     μ-loop
     mul-total
     loop-holds
-    row-of-requires
     layout-of-requires
-    mul-column
-    sub-column
     read-run-requires
     add-i
     enum-known-progress

@@ -18,12 +18,12 @@ pub struct Block {
 }
 
 impl Block {
-    /// How many of its rows a reader of many short rows takes as one run.
-    pub fn rows_at_once(&self) -> usize {
+    /// How many of its values a reader of short rows takes as one run: those of a row, or all.
+    pub fn values_at_once(&self) -> usize {
         if self.width > 64 {
-            1
+            self.width
         } else {
-            16
+            self.height * self.width
         }
     }
 }
@@ -53,17 +53,14 @@ impl Code {
         self.block.width - self.i % self.block.width
     }
 
-    /// How many values come before it in the run of rows that are read at once.
+    /// How many values come before it in the run that is read at once.
     pub fn run_before(&self) -> usize {
-        self.i % (self.block.rows_at_once() * self.block.width)
+        self.i % self.block.values_at_once()
     }
 
     /// How many values that run has left, this one included.
     pub fn run_left(&self) -> usize {
-        let start = self.i - self.run_before();
-        let most = self.block.rows_at_once() * self.block.width;
-        let count = most.min(self.block.height * self.block.width - start);
-        start + count - self.i
+        self.block.values_at_once() - self.run_before()
     }
 }
 

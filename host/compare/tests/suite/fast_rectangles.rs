@@ -11,11 +11,11 @@ use reference::{Answer, Parameters};
 
 /// The row of a value is found with a reciprocal that is not rounded up.
 const RECIPROCAL: u8 = 1;
-/// The reciprocal has 12 bits.
+/// The reciprocal has 16 bits, too few for many rows.
 const COARSE: u8 = 2;
-/// Up to 32 rows are one run, too many for the reciprocal.
-const MANY_ROWS: u8 = 3;
-/// Sixteen ones are zeros where 15 values are left.
+/// Where fewer than 32 values are left, all are zeros if all but one are.
+const ALL_LEFT: u8 = 3;
+/// Thirty-two ones are as many zeros where 31 values are left.
 const THIRTY_TWO: u8 = 4;
 /// Zeros that pass a run's end are taken from the data all the same.
 const CUT: u8 = 5;
@@ -35,7 +35,7 @@ const WINDOW: usize = 56;
 struct Layout {
     start: usize,
     count: usize,
-    /// 2^16 over the width, rounded up; 0 where the run is one row.
+    /// 2^24 over the width, rounded up; 0 where the run is one row.
     reciprocal: usize,
     gap: usize,
 }
@@ -43,7 +43,7 @@ struct Layout {
 impl Layout {
     /// The entry that value i goes to.
     fn entry(&self, i: usize) -> usize {
-        self.start + i + i * self.reciprocal / 65536 * self.gap
+        self.start + i + i * self.reciprocal / (1 << 24) * self.gap
     }
 }
 
@@ -78,10 +78,13 @@ fn read_window(
     mut store: impl FnMut(usize, i64) -> Result<(), u32>,
 ) -> Result<usize, u32> {
     let mut w = window(bits);
+    let left = layout.count - from;
     let least = if fault == THIRTY_TWO { 31 } else { 32 };
-    if layout.count - from >= least && w >> 32 == 0xFFFF_FFFF {
-        bits.at += 32;
-        return Ok(32);
+    let many = if left < least { left } else { 32 };
+    let asked = many - usize::from(fault == ALL_LEFT && left < 32);
+    if w.leading_ones() as usize >= asked {
+        bits.at += many;
+        return Ok(many);
     }
     let mut i = from;
     for _ in 0..if fault == LOOKUPS { 8 } else { 7 } {
@@ -138,31 +141,25 @@ fn read_run(
 }
 
 /// The runs of a rectangle that starts at an entry of a plane with rows of a width.
-fn layouts(
-    start: usize,
-    stride: usize,
-    width: usize,
-    height: usize,
-    fault: u8,
-) -> impl Iterator<Item = Layout> {
-    let many = width <= 64 && height > 1;
-    let reciprocal = match fault {
-        _ if !many || width == 0 => 0,
-        RECIPROCAL => 65536 / width,
-        COARSE => 16 * (4096 / width + 1),
-        _ => 65536 / width + 1,
-    };
-    let most = match fault {
-        _ if !many => 1,
-        MANY_ROWS => 32,
-        _ => 16,
-    };
-    (0..height).step_by(most).map(move |row| Layout {
-        start: start + row * stride,
-        count: most.min(height - row) * width,
+fn layouts(start: usize, stride: usize, width: usize, height: usize, fault: u8) -> Vec<Layout> {
+    let gap = stride - width;
+    let run = |start, count, reciprocal| Layout {
+        start,
+        count,
         reciprocal,
-        gap: stride - width,
-    })
+        gap,
+    };
+    if width > 64 {
+        let rows = (0..height).map(|row| run(start + row * stride, width, 0));
+        return rows.collect();
+    }
+    let reciprocal = match fault {
+        _ if width == 0 => 0,
+        RECIPROCAL => (1 << 24) / width,
+        COARSE => ((1 << 16) / width + 1) << 8,
+        _ => (1 << 24) / width + 1,
+    };
+    vec![run(start, width * height, reciprocal)]
 }
 
 /// Reads the codeblocks of a subband.
@@ -214,7 +211,7 @@ fn faults_at_the_borders_of_many_rows_are_found_often() {
     let faults: [(&str, Decoder); 9] = [
         ("reciprocal", fast::<RECIPROCAL>),
         ("coarse", fast::<COARSE>),
-        ("many rows", fast::<MANY_ROWS>),
+        ("all left", fast::<ALL_LEFT>),
         ("thirty-two", fast::<THIRTY_TWO>),
         ("cut", fast::<CUT>),
         ("lookups", fast::<LOOKUPS>),

@@ -9,7 +9,7 @@ use Rattle.coefficients.proofs.values.index_at.Statement.{statement}
 use Rattle.coefficients.proofs.values.index_at.Tie as tie
 
 -- the whole index has room
-room : (c : tie.Start) → c .args .layout .start + c .args .i + c .args .i * c .args .layout .reciprocal / 65536 * c .args .layout .gap < 2 ^ 64
+room : (c : tie.Start) → c .args .layout .start + c .args .i + c .args .i * c .args .layout .reciprocal / 16777216 * c .args .layout .gap < 2 ^ 64
 unfolding indexOf
 room c = c .pre .2
 
@@ -17,7 +17,7 @@ add-result : tie.Need-add-result
 add-result c = omega (arith, room (c .before .before .before))
 
 -- in a single row values stand side by side
-alone : (start i reciprocal gap : ℕ) → reciprocal ≡ 0 → start + i ≡ start + i + i * reciprocal / 65536 * gap
+alone : (start i reciprocal gap : ℕ) → reciprocal ≡ 0 → start + i ≡ start + i + i * reciprocal / 16777216 * gap
 alone start i reciprocal gap none =
     let row-0 : i * reciprocal ≡ 0 = rw none (mul-zero i) in
     rw row-0 (omega (arith, zero-mul gap))
