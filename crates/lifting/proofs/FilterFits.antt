@@ -1,19 +1,17 @@
--- Each filter changes every place of a line, and so the numbers that it leaves in the end are all new: where its new numbers fit, they fit.
+-- A filter whose steps change every place of a line: the numbers that it leaves in the end are all new: where its new numbers fit, they fit.
 -- Assumes nothing.
-use mathlib.Core.Path.{_≡_, refl}
+use mathlib.Core.Path.{_≡_, refl, ap, _∙_}
 use mathlib.Core.Bool.{Bool, true, false, _||_}
 use mathlib.Core.List.{List, [], _∷_, map}
-use Prim.Native.Nat.{ℕ, _%_, _<_, _≤_}
-use native.Mathlib.Omega.{arith}
+use Prim.Native.Nat.{ℕ, _<_}
 use Rattle.base.specs.Range.{fits32}
 use Rattle.base.proofs.Everys.{and-left, and-right}
 use Rattle.lines.specs.Buffers.{shifted}
 use Rattle.lines.proofs.BufferLaws.{shifted-fits}
-use Rattle.lifting.specs.Lifting.{changes, changesEven}
-use Rattle.lifting.specs.Filters.{filterOf, filter0, filter1, filter2, haarSteps, filter3, filter4, filter5, filter6}
+use Rattle.lifting.specs.Lifting.{Step, changes}
 use Rattle.lifting.specs.Passes.{Picture, Pass, rows, run, runAll, assigns, newFit, allNewFit}
 use Rattle.lifting.proofs.PassLaws.{new-each, run-keeps}
-use Rattle.lifting.proofs.TableLaws.{two, seven}
+use Rattle.lifting.specs.Table.{changedBySome}
 
 -- Whether some of the passes assigns an element a new number.
 unfoldable assigned : List Pass → ℕ → ℕ → Bool
@@ -42,13 +40,11 @@ module _ (h w row column : ℕ) (r : row < h) (c : column < w) where
       (λ kept. rw (run-keeps h w p P row column kept))
       known)
 
--- each filter has a step for the even places and one for the odd ones
-all-assigned : (wavelet row x : ℕ) → wavelet ≤ 6 → assigned (map rows (filterOf wavelet .steps)) row x ≡ true
-unfolding assigned assigns changes changesEven filterOf filter0 filter1 filter2 haarSteps filter3 filter4 filter5 filter6
-all-assigned wavelet row x known =
-    two (x % 2) (omega arith)
-    (λ even. seven wavelet known (λ e. rw (e, even)) (λ e. rw (e, even)) (λ e. rw (e, even)) (λ e. rw (e, even)) (λ e. rw (e, even)) (λ e. rw (e, even)) (λ e. rw (e, even)))
-    (λ odd. seven wavelet known (λ e. rw (e, odd)) (λ e. rw (e, odd)) (λ e. rw (e, odd)) (λ e. rw (e, odd)) (λ e. rw (e, odd)) (λ e. rw (e, odd)) (λ e. rw (e, odd)))
+-- passes over rows assign what their steps change
+assigned-rows : (ss : List Step) (row x : ℕ) → assigned (map rows ss) row x ≡ changedBySome ss x
+unfolding assigned assigns changedBySome
+assigned-rows [] row x = refl
+assigned-rows (s ∷ ss) row x = ap (λ (b : Bool). changes (s .type) x || b) (assigned-rows ss row x)
 
 -- what is true where either side of a test is
 or-right : (a b : Bool) → b ≡ true → a || b ≡ true
@@ -57,8 +53,8 @@ or-right false b e = e
 
 -- where the new numbers of a filter's steps fit, its numbers in the end fit, shifted or not
 pub filter-fits :
-    (h w wavelet : ℕ) (shift : Bool) (P : Picture) → wavelet ≤ 6 → allNewFit h w (map rows (filterOf wavelet .steps)) P ≡ true
-    → (row x : ℕ) → row < h → x < w → fits32 (shifted shift (runAll h w (map rows (filterOf wavelet .steps)) P row x)) ≡ true
-filter-fits h w wavelet shift P known new row x r c =
-    shifted-fits shift (runAll h w (map rows (filterOf wavelet .steps)) P row x)
-    (element-fits h w row x r c (map rows (filterOf wavelet .steps)) P new (or-right (fits32 (P row x)) _ (all-assigned wavelet row x known)))
+    (h w : ℕ) (steps : List Step) (shift : Bool) (P : Picture) → ((x : ℕ) → changedBySome steps x ≡ true) → allNewFit h w (map rows steps) P ≡ true
+    → (row x : ℕ) → row < h → x < w → fits32 (shifted shift (runAll h w (map rows steps) P row x)) ≡ true
+filter-fits h w steps shift P changed new row x r c =
+    shifted-fits shift (runAll h w (map rows steps) P row x)
+    (element-fits h w row x r c (map rows steps) P new (or-right (fits32 (P row x)) _ (assigned-rows steps row x ∙ changed x)))

@@ -1,14 +1,16 @@
 -- What ties the table of filters to document 01's, entry by entry, and the rounding of a scale.
 -- Assumes nothing.
-use mathlib.Core.Path.{_≡_, refl, ap}
+use mathlib.Core.Path.{_≡_, refl, sym, ap, _∙_}
 use mathlib.Core.Logic.{_≢_}
-use mathlib.Core.Bool.{Bool, true, _&&_, _||_}
+use mathlib.Core.Bool.{Bool, true, false, _&&_, _||_}
 use Prim.Native.Nat.{ℕ, zero, suc, _+_, _-_, _*_, _/_, _%_, _^_, _≤_, _<_}
 use native.Mathlib.Nat.{one-mul, mod-eq-of-lt}
 use native.Mathlib.Omega.{arith}
 use lib.Dec.{leb, eqb, lit≤}
 use lib.IntN.{ℤ, pos, negsuc, natAbs}
-use lib.ListN.{length, getD}
+use mathlib.Core.List.{List, [], _∷_, map}
+use lib.ListN.{length, getD, take, length-map, length-take, List·getD-map}
+use lib.Seq.{getD-take, ext-getD}
 use lib.Pow.{pow-lt, pow-mono}
 use mir.Syntax.{w64}
 use mir.Val.{toZ, ofZ}
@@ -18,9 +20,10 @@ use Rattle.base.specs.Every.{allBelow}
 use Rattle.base.proofs.Everys.{and-left, and-right, all-at}
 use Rattle.base.proofs.Magnitudes.{mag-size}
 use Rattle.base.proofs.Ranges.{back}
-use Rattle.lifting.specs.Lifting.{Step, rounding}
+use Rattle.lifting.specs.Lifting.{Step, rounding, changes, changesEven}
 use Rattle.lifting.specs.Filters.{filterOf, filter0, filter1, filter2, haarSteps, filter3, filter4, filter5, filter6}
-use Rattle.lifting.specs.Table.{stepOf, gainOf, Sane}
+use Rattle.lifting.specs.Table.{stepOf, gainOf, Sane, IsStep, StepsOf, filterFrom, changedBySome, WellFormed}
+use Rattle.lifting.specs.declared.filters.LiftingFilter.{LiftingFilter}
 use Rattle.lifting.specs.declared.filters.LiftingStep.{LiftingStep}
 
 -- a number below two, four or seven is one of them
@@ -53,6 +56,14 @@ steps-few wavelet known =
     seven wavelet known
     (λ e. rw e (omega arith, omega arith)) (λ e. rw e (omega arith, omega arith)) (λ e. rw e (omega arith, omega arith)) (λ e. rw e (omega arith, omega arith))
     (λ e. rw e (omega arith, omega arith)) (λ e. rw e (omega arith, omega arith)) (λ e. rw e (omega arith, omega arith))
+
+-- each filter has a step for the even places and one for the odd ones
+all-changed : (wavelet x : ℕ) → wavelet ≤ 6 → changedBySome (filterOf wavelet .steps) x ≡ true
+unfolding changedBySome changes changesEven filterOf filter0 filter1 filter2 haarSteps filter3 filter4 filter5 filter6
+all-changed wavelet x known =
+    two (x % 2) (omega arith)
+    (λ even. seven wavelet known (λ e. rw (e, even)) (λ e. rw (e, even)) (λ e. rw (e, even)) (λ e. rw (e, even)) (λ e. rw (e, even)) (λ e. rw (e, even)) (λ e. rw (e, even)))
+    (λ odd. seven wavelet known (λ e. rw (e, odd)) (λ e. rw (e, odd)) (λ e. rw (e, odd)) (λ e. rw (e, odd)) (λ e. rw (e, odd)) (λ e. rw (e, odd)) (λ e. rw (e, odd)))
 
 -- whether two whole numbers are the same: a number and its distances from 0 and from −1/2
 abbrev sameInt : ℤ → ℤ → Bool
@@ -127,8 +138,57 @@ pub record Entry (wavelet k : ℕ) (r : LiftingStep) : Type 0 where
 pub entry : {wavelet k : ℕ} {r : LiftingStep} → ((other : Step) → getD (filterOf wavelet .steps) k other ≡ stepOf r) → saneTest r ≡ true → Entry wavelet k r
 entry same passes = record { same = same; passes = passes }
 
-pub entry-says : (wavelet k : ℕ) (r : LiftingStep) → Entry wavelet k r → (getD (filterOf wavelet .steps) k (stepOf r) ≡ stepOf r) × Sane r
-entry-says wavelet k r entry = (entry .same (stepOf r), sane r (entry .passes))
+pub entry-says : (wavelet k : ℕ) (r : LiftingStep) → Entry wavelet k r → IsStep wavelet k r
+entry-says wavelet k r entry = (entry .same, sane r (entry .passes))
+
+-- what stands in a list does not depend on what stands past its end
+any-default : {A : Type 0} (l : List A) (k : ℕ) (d e : A) → k < length l → getD l k d ≡ getD l k e
+any-default [] k d e inside = absurd (omega arith)
+any-default (x ∷ xs) zero d e inside = refl
+any-default (x ∷ xs) (suc k) d e inside = any-default xs k d e (omega arith)
+
+-- the steps in use of a filter: so many, and each its own
+module _ (f : LiftingFilter) (there : f .count ≤ length (f .steps)) where
+  pub steps-counted : length (filterFrom f .steps) ≡ f .count
+  steps-counted = rw (length-map, length-take (f .count) (f .steps)) (omega arith)
+
+  pub step-in-use : (k : ℕ) (other : LiftingStep) → k < f .count →
+      getD (filterFrom f .steps) k (stepOf (getD (f .steps) k other)) ≡ stepOf (getD (f .steps) k other)
+  step-in-use k other below =
+      any-default (map stepOf (take (f .count) (f .steps))) k (stepOf (getD (f .steps) k other)) (stepOf other) (omega (arith, steps-counted))
+      ∙ List·getD-map stepOf (take (f .count) (f .steps)) k other
+      ∙ ap stepOf (getD-take (f .count) (f .steps) k other below)
+
+-- rows that are the steps of a wavelet index, in a record
+module _ (wavelet : ℕ) (known : wavelet ≤ 6) (f : LiftingFilter) (steps : StepsOf wavelet (f .steps)) (four-steps : length (f .steps) ≡ 4)
+    (count : f .count ≡ length (filterOf wavelet .steps)) (shift : f .shift ≡ filterOf wavelet .shift) where
+  few : f .count ≤ length (f .steps)
+  few = omega (arith, steps-few wavelet known .1)
+
+  same-steps : filterFrom f .steps ≡ filterOf wavelet .steps
+  same-steps =
+      ext-getD (stepOf sample) (filterFrom f .steps) (filterOf wavelet .steps) (steps-counted f few ∙ count)
+      (λ k inside.
+      let below : k < f .count = omega (arith, steps-counted f few) in
+      let here : k < length (filterOf wavelet .steps) = omega arith in
+      List·getD-map stepOf (take (f .count) (f .steps)) k sample
+      ∙ ap stepOf (getD-take (f .count) (f .steps) k sample below)
+      ∙ sym (steps k sample here .0 (stepOf sample)))
+    where
+      sample : LiftingStep
+      sample = record { even = false; adds = false; lead = 0; taps = []; count = 0; scale = 0; gain = 0 }
+
+  pub same-filter : filterFrom f ≡ filterOf wavelet
+  same-filter = rw (same-steps, shift) refl
+
+  pub well-formed : WellFormed f
+  well-formed =
+      record {
+        few = omega (arith, steps-few wavelet known .1);
+        there = few;
+        each = λ k other below. steps k other (omega arith) .1;
+        all-changed = λ x. rw same-steps (all-changed wavelet x known);
+      }
 
 -- a small power of two, as the code makes it, and as document 01 says it
 pub power-small : (x : ℕ) → x < 12 → 2 ^ x < 2 ^ 12

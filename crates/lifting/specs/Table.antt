@@ -2,14 +2,15 @@
 -- they are tied to stand in Filters.antt.
 use mathlib.Core.Path.{_≡_}
 use Prim.Native.Nat.{ℕ, _+_, _*_, _^_, _≤_, _<_, max}
-use mathlib.Core.Bool.{Bool, true, false, cond}
-use mathlib.Core.List.{List, [], _∷_}
+use mathlib.Core.Bool.{Bool, true, false, cond, _||_}
+use mathlib.Core.List.{List, [], _∷_, map}
 use lib.IntN.{ℤ, pos, _+ℤ_, _-ℤ_, natAbs}
 use lib.ListN.{length, getD, take}
 use Rattle.lines.specs.Buffers.{Symmetric}
 use Rattle.lines.specs.Sums.{sumBelow, tapAt, changed}
-use Rattle.lifting.specs.Lifting.{Step, rounding, StepType, type1, type2, type3, type4}
-use Rattle.lifting.specs.Filters.{filterOf}
+use Rattle.lifting.specs.Lifting.{Step, rounding, StepType, type1, type2, type3, type4, changes}
+use Rattle.lifting.specs.Filters.{Filter, filterOf}
+use Rattle.lifting.specs.declared.filters.LiftingFilter.{LiftingFilter}
 use Rattle.lifting.specs.declared.filters.LiftingStep.{LiftingStep}
 
 -- A step's type, from the places it changes and whether it adds.
@@ -56,9 +57,28 @@ abbrev pub lineNew : LiftingStep → List ℕ → List ℤ → ℕ → ℕ → �
 lineNew r places plane place x =
     changed (r .adds) (r .scale) (getD plane (place + x) (pos 0)) (rounding (r .scale) +ℤ sumBelow (tapAt (r .taps) places plane x) (r .count))
 
+-- The filter that a record of the code stands for: the steps in use, and the shift.
+abbrev pub stepsInUse : ℕ → List LiftingStep → List Step
+stepsInUse count steps = map stepOf (take count steps)
+
+abbrev pub filterFrom : LiftingFilter → Filter
+filterFrom f = record { steps = stepsInUse (f .count) (f .steps); shift = f .shift }
+
+-- Whether some of the steps changes a place.
+unfoldable pub changedBySome : List Step → ℕ → Bool
+changedBySome [] x = false
+changedBySome (s ∷ ss) x = changes (s .type) x || changedBySome ss x
+
+-- There are so many steps, four at most, each sane, and every place of a line is changed by one.
+pub record WellFormed (f : LiftingFilter) : Type 0 where
+  pub few : f .count ≤ 4
+  pub there : f .count ≤ length (f .steps)
+  pub each : (k : ℕ) (other : LiftingStep) → k < f .count → Sane (getD (f .steps) k other)
+  pub all-changed : (x : ℕ) → changedBySome (filterFrom f .steps) x ≡ true
+
 -- A row is step k of the filter of a wavelet index.
 abbrev pub IsStep : ℕ → ℕ → LiftingStep → Type 0
-IsStep wavelet k r = (getD (filterOf wavelet .steps) k (stepOf r) ≡ stepOf r) × Sane r
+IsStep wavelet k r = ((other : Step) → getD (filterOf wavelet .steps) k other ≡ stepOf r) × Sane r
 
 -- An array of rows starts with the steps of that filter; whatever is read past its end.
 abbrev pub StepsOf : ℕ → List LiftingStep → Type 0

@@ -9,15 +9,13 @@ ghost use Rattle.base.specs.Fill.{fill};
 ghost use Rattle.base.specs.Range.{fits32};
 ghost use Rattle.lines.specs.Buffers.{Within};
 ghost use Rattle.lifting.specs.Lifting.{lift};
-ghost use Rattle.lifting.specs.Filters.{filterOf};
 ghost use Rattle.lifting.specs.Passes.{columns, run, runAll, newFit, allNewFit};
 ghost use Rattle.lifting.specs.Planes.{pictureOf};
-ghost use Rattle.lifting.specs.Table.{stepOf, Sane};
+ghost use Rattle.lifting.specs.Table.{stepOf, Sane, filterFrom, WellFormed};
 ghost use Rattle.lifting.specs.Layout.{Agree, Placed, targetRow, sourceRow};
 ghost use Rattle.lifting.specs.Reach.{sourceReach, targetReach, reachAfter, ColumnsReach};
+use crate::filters::LiftingFilter;
 use crate::filters::LiftingStep;
-use crate::filters::step_at;
-use crate::filters::step_count;
 use crate::reach::Reach;
 use crate::reach::reach_after;
 use crate::steps::lift_step;
@@ -31,13 +29,14 @@ pub struct Frame {
 
 // Runs the steps of a filter on every column of the picture, whose numbers are at most `most` + 1 in size. False where a new number is
 // outside 32 bits; then the plane's numbers are of no use.
-pub fn filter_columns(work: &mut [i32], frame: Frame, wavelet: usize, most: u32) -> bool
-    requires { ⌜ Placed frame (now work) × (wavelet ≤ 6) ⌝ }
+pub fn filter_columns(work: &mut [i32], frame: Frame, filter: LiftingFilter, most: u32) -> bool
+    requires { ⌜ Placed frame (now work) × WellFormed filter ⌝ }
     requires { ⌜ ((row : ℕ) → row < 2 * frame .«band_rows» → Within (now work) (row * frame .stride) (2 * frame .«band_columns») (suc most)) ⌝ }
-    ensures told { λ r. ⌜ r ≡ allNewFit (2 * frame .«band_rows») (2 * frame .«band_columns») (map columns (filterOf wavelet .steps)) (pictureOf (frame .stride) (now (work .entry))) ⌝ }
-    ensures done { λ r. ⌜ (r ≡ true → Agree (2 * frame .«band_rows») (2 * frame .«band_columns») (pictureOf (frame .stride) (now (work .exit))) (runAll (2 * frame .«band_rows») (2 * frame .«band_columns») (map columns (filterOf wavelet .steps)) (pictureOf (frame .stride) (now (work .entry))))) ⌝ }
+    ensures told { λ r. ⌜ r ≡ allNewFit (2 * frame .«band_rows») (2 * frame .«band_columns») (map columns (filterFrom filter .steps)) (pictureOf (frame .stride) (now (work .entry))) ⌝ }
+    ensures done { λ r. ⌜ (r ≡ true → Agree (2 * frame .«band_rows») (2 * frame .«band_columns») (pictureOf (frame .stride) (now (work .exit))) (runAll (2 * frame .«band_rows») (2 * frame .«band_columns») (map columns (filterFrom filter .steps)) (pictureOf (frame .stride) (now (work .entry))))) ⌝ }
 {
-    let count = step_count(wavelet);
+    let count = filter.count;
+    let steps = filter.steps;
     let size = most as u64 + 1;
     let mut reach = Reach {
         even: size,
@@ -45,7 +44,7 @@ pub fn filter_columns(work: &mut [i32], frame: Frame, wavelet: usize, most: u32)
     };
     let mut k = 0;
     while k < count {
-        let step = step_at(wavelet, k);
+        let step = steps[k];
         if !lift_columns(work, frame, step, reach) {
             return false;
         }

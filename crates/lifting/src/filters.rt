@@ -4,7 +4,7 @@ ghost use Prim.Native.Nat.{_≤_, _<_};
 ghost use lib.ListN.{length};
 ghost use Rattle.lifting.specs.Lifting.{rounding};
 ghost use Rattle.lifting.specs.Filters.{filterOf};
-ghost use Rattle.lifting.specs.Table.{IsStep, StepsOf};
+ghost use Rattle.lifting.specs.Table.{filterFrom, WellFormed, IsStep, StepsOf};
 
 // A lifting step: whether it changes the even places, whether it adds, its first offset, its taps and its scale; and its gain, which is its
 // count of taps times the size of its largest. The first offset D is counted from −3 where even places change and from −4 where odd ones
@@ -19,7 +19,14 @@ pub struct LiftingStep {
     pub gain: u64,
 }
 
-// A filter: where its steps start in the table, how many it has, and whether its shift is 1.
+// A filter: its steps, of which the first `count` are in use, and whether its shift is 1.
+pub struct LiftingFilter {
+    pub steps: [LiftingStep; 4],
+    pub count: usize,
+    pub shift: bool,
+}
+
+// A filter in the table: where its steps start, how many it has, and whether its shift is 1.
 pub struct TableFilter {
     pub start: usize,
     pub count: usize,
@@ -193,8 +200,23 @@ const STEPS: [LiftingStep; 14] = [
     },
 ];
 
+// The filter of a wavelet index.
+pub fn filter_of(wavelet: usize) -> LiftingFilter
+    requires { ⌜ wavelet ≤ 6 ⌝ }
+    ensures { λ r. ⌜ (filterFrom r ≡ filterOf wavelet) × WellFormed r ⌝ }
+{
+    let steps = filter_steps(wavelet);
+    let count = step_count(wavelet);
+    let shift = has_shift(wavelet);
+    LiftingFilter {
+        steps,
+        count,
+        shift,
+    }
+}
+
 // How many steps the filter of a wavelet index has.
-pub fn step_count(wavelet: usize) -> usize
+fn step_count(wavelet: usize) -> usize
     requires { ⌜ wavelet ≤ 6 ⌝ }
     ensures { λ r. ⌜ r ≡ length (filterOf wavelet .steps) ⌝ }
 {
@@ -203,7 +225,7 @@ pub fn step_count(wavelet: usize) -> usize
 }
 
 // Whether the shift of the filter of a wavelet index is 1.
-pub fn has_shift(wavelet: usize) -> bool
+fn has_shift(wavelet: usize) -> bool
     requires { ⌜ wavelet ≤ 6 ⌝ }
     ensures { λ r. ⌜ r ≡ filterOf wavelet .shift ⌝ }
 {
@@ -212,7 +234,7 @@ pub fn has_shift(wavelet: usize) -> bool
 }
 
 // Step k of the filter of a wavelet index.
-pub fn step_at(wavelet: usize, k: usize) -> LiftingStep
+fn step_at(wavelet: usize, k: usize) -> LiftingStep
     requires { ⌜ (wavelet ≤ 6) × (k < length (filterOf wavelet .steps)) ⌝ }
     ensures { λ r. ⌜ IsStep wavelet k r ⌝ }
 {
@@ -222,9 +244,9 @@ pub fn step_at(wavelet: usize, k: usize) -> LiftingStep
 }
 
 // The steps of the filter of a wavelet index, from the first on; the entries that are left repeat the first.
-pub fn filter_steps(wavelet: usize) -> [LiftingStep; 4]
+fn filter_steps(wavelet: usize) -> [LiftingStep; 4]
     requires { ⌜ wavelet ≤ 6 ⌝ }
-    ensures { λ r. ⌜ StepsOf wavelet r ⌝ }
+    ensures { λ r. ⌜ StepsOf wavelet r × (length r ≡ 4) ⌝ }
 {
     let first = step_at(wavelet, 0);
     let count = step_count(wavelet);

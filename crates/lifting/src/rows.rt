@@ -13,17 +13,14 @@ ghost use Rattle.base.specs.Range.{fits32};
 ghost use Rattle.lines.specs.Buffers.{Within, heldEntry, woven, shifted};
 ghost use Rattle.lines.specs.Sums.{sumBelow, changed};
 ghost use Rattle.lifting.specs.Lifting.{lift, rounding};
-ghost use Rattle.lifting.specs.Filters.{filterOf};
 ghost use Rattle.lifting.specs.Passes.{rows, run, runAll, newFit, allNewFit};
 ghost use Rattle.lifting.specs.Planes.{pictureOf};
-ghost use Rattle.lifting.specs.Table.{stepOf, Sane, StepsOf};
+ghost use Rattle.lifting.specs.Table.{stepOf, Sane, filterFrom, WellFormed};
 ghost use Rattle.lifting.specs.Layout.{Agree, Placed, halfPlace, halvesOf};
 ghost use Rattle.lifting.specs.Reach.{sourceReach, targetReach, reachAfter, HalvesReach};
 use crate::columns::Frame;
+use crate::filters::LiftingFilter;
 use crate::filters::LiftingStep;
-use crate::filters::filter_steps;
-use crate::filters::has_shift;
-use crate::filters::step_count;
 use crate::reach::Reach;
 use crate::reach::reach_after;
 use crate::steps::lift_step;
@@ -40,21 +37,20 @@ pub fn finish_rows(
     samples: &mut [i32],
     halves: &mut [i32; 4112],
     frame: Frame,
-    wavelet: usize,
+    filter: LiftingFilter,
     width: usize,
     height: usize,
 ) -> bool
-    requires { ⌜ Placed frame (now work) × (wavelet ≤ 6) ⌝ }
+    requires { ⌜ Placed frame (now work) × WellFormed filter ⌝ }
     requires { ⌜ (width ≤ 2 * frame .«band_columns») × (height ≤ 2 * frame .«band_rows») × (height * width ≤ length (now samples)) ⌝ }
-    ensures told { λ r. ⌜ r ≡ allNewFit (2 * frame .«band_rows») (2 * frame .«band_columns») (map rows (filterOf wavelet .steps)) (halvesOf (frame .«band_columns») (frame .stride) (now (work .entry))) ⌝ }
-    ensures done { λ r. ⌜ (r ≡ true → Agree height width (pictureOf width (now (samples .exit))) (λ row x. shifted (filterOf wavelet .shift) (runAll (2 * frame .«band_rows») (2 * frame .«band_columns») (map rows (filterOf wavelet .steps)) (halvesOf (frame .«band_columns») (frame .stride) (now (work .entry))) row x))) ⌝ }
-    ensures fit { λ r. ⌜ (r ≡ true → (row x : ℕ) → row < 2 * frame .«band_rows» → x < 2 * frame .«band_columns» → fits32 (shifted (filterOf wavelet .shift) (runAll (2 * frame .«band_rows») (2 * frame .«band_columns») (map rows (filterOf wavelet .steps)) (halvesOf (frame .«band_columns») (frame .stride) (now (work .entry))) row x)) ≡ true) ⌝ }
+    ensures told { λ r. ⌜ r ≡ allNewFit (2 * frame .«band_rows») (2 * frame .«band_columns») (map rows (filterFrom filter .steps)) (halvesOf (frame .«band_columns») (frame .stride) (now (work .entry))) ⌝ }
+    ensures done { λ r. ⌜ (r ≡ true → Agree height width (pictureOf width (now (samples .exit))) (λ row x. shifted (filter .shift) (runAll (2 * frame .«band_rows») (2 * frame .«band_columns») (map rows (filterFrom filter .steps)) (halvesOf (frame .«band_columns») (frame .stride) (now (work .entry))) row x))) ⌝ }
+    ensures fit { λ r. ⌜ (r ≡ true → (row x : ℕ) → row < 2 * frame .«band_rows» → x < 2 * frame .«band_columns» → fits32 (shifted (filter .shift) (runAll (2 * frame .«band_rows») (2 * frame .«band_columns») (map rows (filterFrom filter .steps)) (halvesOf (frame .«band_columns») (frame .stride) (now (work .entry))) row x)) ≡ true) ⌝ }
     ensures cleared { λ r. ⌜ (r ≡ true → (row x : ℕ) → row < 2 * frame .«band_rows» → x < 2 * frame .«band_columns» → getD (now (work .exit)) (row * frame .stride + x) (pos 0) ≡ pos 0) ⌝ }
 {
     let half = frame.band_columns;
     let stride = frame.stride;
     let rows = 2 * frame.band_rows;
-    let steps = filter_steps(wavelet);
     let mut row = 0;
     while row < rows {
         let count = kept_columns(row, width, height);
@@ -66,8 +62,7 @@ pub fn finish_rows(
             count,
             halves,
             half,
-            wavelet,
-            steps,
+            filter,
         ) {
             return false;
         }
@@ -85,19 +80,18 @@ fn finish_row(
     count: usize,
     halves: &mut [i32; 4112],
     half: usize,
-    wavelet: usize,
-    steps: [LiftingStep; 4],
+    filter: LiftingFilter,
 ) -> bool
-    requires { ⌜ (1 ≤ half) × (half ≤ 2048) × (place + 2 * half ≤ length (now work)) × (wavelet ≤ 6) × StepsOf wavelet steps ⌝ }
+    requires { ⌜ (1 ≤ half) × (half ≤ 2048) × (place + 2 * half ≤ length (now work)) × WellFormed filter ⌝ }
     requires { ⌜ (count ≤ 2 * half) × (to + count ≤ length (now samples)) ⌝ }
-    ensures told { λ r. ⌜ r ≡ allNewFit 1 (2 * half) (map rows (filterOf wavelet .steps)) (λ row x. getD (now (work .entry)) (place + halfPlace half x) (pos 0)) ⌝ }
-    ensures done { λ r. ⌜ (r ≡ true → now (samples .exit) ≡ fill (now (samples .entry)) to count (λ x. shifted (filterOf wavelet .shift) (runAll 1 (2 * half) (map rows (filterOf wavelet .steps)) (λ row k. getD (now (work .entry)) (place + halfPlace half k) (pos 0)) 0 x))) ⌝ }
+    ensures told { λ r. ⌜ r ≡ allNewFit 1 (2 * half) (map rows (filterFrom filter .steps)) (λ row x. getD (now (work .entry)) (place + halfPlace half x) (pos 0)) ⌝ }
+    ensures done { λ r. ⌜ (r ≡ true → now (samples .exit) ≡ fill (now (samples .entry)) to count (λ x. shifted (filter .shift) (runAll 1 (2 * half) (map rows (filterFrom filter .steps)) (λ row k. getD (now (work .entry)) (place + halfPlace half k) (pos 0)) 0 x))) ⌝ }
     ensures cleared { λ r. ⌜ (r ≡ true → now (work .exit) ≡ fill (now (work .entry)) place (2 * half) (λ x. pos 0)) ⌝ }
 {
-    if !filter_row_halves(work, place, halves, half, wavelet, steps) {
+    if !filter_row_halves(work, place, halves, half, filter) {
         return false;
     }
-    weave(samples, to, halves, count, has_shift(wavelet));
+    weave(samples, to, halves, count, filter.shift);
     zero_part(work, place, 2 * half);
     true
 }
@@ -115,19 +109,23 @@ fn kept_columns(row: usize, width: usize, height: usize) -> usize
 
 // Runs the steps of a filter, and its shift, on every row of a picture whose rows stand as two halves; they are woven in the end. False where
 // a new number of a step is outside 32 bits; then the plane's numbers are of no use.
-pub fn filter_rows(work: &mut [i32], halves: &mut [i32; 4112], frame: Frame, wavelet: usize) -> bool
-    requires { ⌜ Placed frame (now work) × (wavelet ≤ 6) ⌝ }
-    ensures told { λ r. ⌜ r ≡ allNewFit (2 * frame .«band_rows») (2 * frame .«band_columns») (map rows (filterOf wavelet .steps)) (halvesOf (frame .«band_columns») (frame .stride) (now (work .entry))) ⌝ }
-    ensures done { λ r. ⌜ (r ≡ true → Agree (2 * frame .«band_rows») (2 * frame .«band_columns») (pictureOf (frame .stride) (now (work .exit))) (λ row x. shifted (filterOf wavelet .shift) (runAll (2 * frame .«band_rows») (2 * frame .«band_columns») (map rows (filterOf wavelet .steps)) (halvesOf (frame .«band_columns») (frame .stride) (now (work .entry))) row x))) ⌝ }
-    ensures fit { λ r. ⌜ (r ≡ true → (row x : ℕ) → row < 2 * frame .«band_rows» → x < 2 * frame .«band_columns» → fits32 (shifted (filterOf wavelet .shift) (runAll (2 * frame .«band_rows») (2 * frame .«band_columns») (map rows (filterOf wavelet .steps)) (halvesOf (frame .«band_columns») (frame .stride) (now (work .entry))) row x)) ≡ true) ⌝ }
+pub fn filter_rows(
+    work: &mut [i32],
+    halves: &mut [i32; 4112],
+    frame: Frame,
+    filter: LiftingFilter,
+) -> bool
+    requires { ⌜ Placed frame (now work) × WellFormed filter ⌝ }
+    ensures told { λ r. ⌜ r ≡ allNewFit (2 * frame .«band_rows») (2 * frame .«band_columns») (map rows (filterFrom filter .steps)) (halvesOf (frame .«band_columns») (frame .stride) (now (work .entry))) ⌝ }
+    ensures done { λ r. ⌜ (r ≡ true → Agree (2 * frame .«band_rows») (2 * frame .«band_columns») (pictureOf (frame .stride) (now (work .exit))) (λ row x. shifted (filter .shift) (runAll (2 * frame .«band_rows») (2 * frame .«band_columns») (map rows (filterFrom filter .steps)) (halvesOf (frame .«band_columns») (frame .stride) (now (work .entry))) row x))) ⌝ }
+    ensures fit { λ r. ⌜ (r ≡ true → (row x : ℕ) → row < 2 * frame .«band_rows» → x < 2 * frame .«band_columns» → fits32 (shifted (filter .shift) (runAll (2 * frame .«band_rows») (2 * frame .«band_columns») (map rows (filterFrom filter .steps)) (halvesOf (frame .«band_columns») (frame .stride) (now (work .entry))) row x)) ≡ true) ⌝ }
 {
     let half = frame.band_columns;
     let stride = frame.stride;
     let height = 2 * frame.band_rows;
-    let steps = filter_steps(wavelet);
     let mut row = 0;
     while row < height {
-        if !filter_row(work, row * stride, halves, half, wavelet, steps) {
+        if !filter_row(work, row * stride, halves, half, filter) {
             return false;
         }
         row += 1;
@@ -141,17 +139,16 @@ fn filter_row(
     place: usize,
     halves: &mut [i32; 4112],
     half: usize,
-    wavelet: usize,
-    steps: [LiftingStep; 4],
+    filter: LiftingFilter,
 ) -> bool
-    requires { ⌜ (1 ≤ half) × (half ≤ 2048) × (place + 2 * half ≤ length (now work)) × (wavelet ≤ 6) × StepsOf wavelet steps ⌝ }
-    ensures told { λ r. ⌜ r ≡ allNewFit 1 (2 * half) (map rows (filterOf wavelet .steps)) (λ row x. getD (now (work .entry)) (place + halfPlace half x) (pos 0)) ⌝ }
-    ensures done { λ r. ⌜ (r ≡ true → now (work .exit) ≡ fill (now (work .entry)) place (2 * half) (λ x. shifted (filterOf wavelet .shift) (runAll 1 (2 * half) (map rows (filterOf wavelet .steps)) (λ row k. getD (now (work .entry)) (place + halfPlace half k) (pos 0)) 0 x))) ⌝ }
+    requires { ⌜ (1 ≤ half) × (half ≤ 2048) × (place + 2 * half ≤ length (now work)) × WellFormed filter ⌝ }
+    ensures told { λ r. ⌜ r ≡ allNewFit 1 (2 * half) (map rows (filterFrom filter .steps)) (λ row x. getD (now (work .entry)) (place + halfPlace half x) (pos 0)) ⌝ }
+    ensures done { λ r. ⌜ (r ≡ true → now (work .exit) ≡ fill (now (work .entry)) place (2 * half) (λ x. shifted (filter .shift) (runAll 1 (2 * half) (map rows (filterFrom filter .steps)) (λ row k. getD (now (work .entry)) (place + halfPlace half k) (pos 0)) 0 x))) ⌝ }
 {
-    if !filter_row_halves(work, place, halves, half, wavelet, steps) {
+    if !filter_row_halves(work, place, halves, half, filter) {
         return false;
     }
-    weave(work, place, halves, 2 * half, has_shift(wavelet));
+    weave(work, place, halves, 2 * half, filter.shift);
     true
 }
 
@@ -161,12 +158,11 @@ fn filter_row_halves(
     place: usize,
     halves: &mut [i32; 4112],
     half: usize,
-    wavelet: usize,
-    steps: [LiftingStep; 4],
+    filter: LiftingFilter,
 ) -> bool
-    requires { ⌜ (1 ≤ half) × (half ≤ 2048) × (place + 2 * half ≤ length (now work)) × (wavelet ≤ 6) × StepsOf wavelet steps ⌝ }
-    ensures told { λ r. ⌜ r ≡ allNewFit 1 (2 * half) (map rows (filterOf wavelet .steps)) (λ row x. getD (now (work .entry)) (place + halfPlace half x) (pos 0)) ⌝ }
-    ensures done { λ r. ⌜ (r ≡ true → (x : ℕ) → x < 2 * half → woven (now (halves .exit)) x ≡ runAll 1 (2 * half) (map rows (filterOf wavelet .steps)) (λ row k. getD (now (work .entry)) (place + halfPlace half k) (pos 0)) 0 x) ⌝ }
+    requires { ⌜ (1 ≤ half) × (half ≤ 2048) × (place + 2 * half ≤ length (now work)) × WellFormed filter ⌝ }
+    ensures told { λ r. ⌜ r ≡ allNewFit 1 (2 * half) (map rows (filterFrom filter .steps)) (λ row x. getD (now (work .entry)) (place + halfPlace half x) (pos 0)) ⌝ }
+    ensures done { λ r. ⌜ (r ≡ true → (x : ℕ) → x < 2 * half → woven (now (halves .exit)) x ≡ runAll 1 (2 * half) (map rows (filterFrom filter .steps)) (λ row k. getD (now (work .entry)) (place + halfPlace half k) (pos 0)) 0 x) ⌝ }
 {
     let low_most = copy_measured(halves, 4, work, place, half) as u64;
     let high_most = copy_measured(halves, 2060, work, place + half, half) as u64;
@@ -174,23 +170,18 @@ fn filter_row_halves(
         even: low_most + 1,
         odd: high_most + 1,
     };
-    filter_halves(halves, half, wavelet, steps, reach)
+    filter_halves(halves, half, filter, reach)
 }
 
 // Runs the steps of a filter on a row whose even and odd places stand as the two halves in the line buffer, each within its reach.
-fn filter_halves(
-    halves: &mut [i32; 4112],
-    half: usize,
-    wavelet: usize,
-    steps: [LiftingStep; 4],
-    first: Reach,
-) -> bool
-    requires { ⌜ (1 ≤ half) × (half ≤ 2048) × (wavelet ≤ 6) × StepsOf wavelet steps ⌝ }
+fn filter_halves(halves: &mut [i32; 4112], half: usize, filter: LiftingFilter, first: Reach) -> bool
+    requires { ⌜ (1 ≤ half) × (half ≤ 2048) × WellFormed filter ⌝ }
     requires { ⌜ HalvesReach half first (now halves) ⌝ }
-    ensures told { λ r. ⌜ r ≡ allNewFit 1 (2 * half) (map rows (filterOf wavelet .steps)) (λ row. woven (now (halves .entry))) ⌝ }
-    ensures done { λ r. ⌜ (r ≡ true → (x : ℕ) → x < 2 * half → woven (now (halves .exit)) x ≡ runAll 1 (2 * half) (map rows (filterOf wavelet .steps)) (λ row. woven (now (halves .entry))) 0 x) ⌝ }
+    ensures told { λ r. ⌜ r ≡ allNewFit 1 (2 * half) (map rows (filterFrom filter .steps)) (λ row. woven (now (halves .entry))) ⌝ }
+    ensures done { λ r. ⌜ (r ≡ true → (x : ℕ) → x < 2 * half → woven (now (halves .exit)) x ≡ runAll 1 (2 * half) (map rows (filterFrom filter .steps)) (λ row. woven (now (halves .entry))) 0 x) ⌝ }
 {
-    let count = step_count(wavelet);
+    let count = filter.count;
+    let steps = filter.steps;
     let mut reach = first;
     let mut k = 0;
     while k < count {

@@ -5,7 +5,7 @@ ghost use Prim.Native.Nat.{suc, _-_, _*_, _^_, _≤_};
 ghost use Rattle.base.specs.Fill.{zerosLike};
 ghost use lib.ListN.{length};
 ghost use Rattle.component.specs.Sizes.{sizeAt};
-ghost use Rattle.lifting.specs.Filters.{filterOf};
+ghost use Rattle.lifting.specs.Table.{filterFrom, WellFormed};
 ghost use Rattle.lifting.specs.Passes.{runAll, allNewFit};
 ghost use Rattle.lifting.specs.Planes.{pictureOf};
 ghost use Rattle.lifting.specs.Layout.{Agree, Placed};
@@ -15,6 +15,7 @@ use crate::bands::copy_rows;
 use crate::bands::interleave_bands;
 use lifting::columns::Frame;
 use lifting::columns::filter_columns;
+use lifting::filters::LiftingFilter;
 use lifting::rows::filter_rows;
 use lifting::rows::finish_rows;
 
@@ -33,23 +34,23 @@ pub fn synthesise_levels(
     coefficients: &[i32],
     halves: &mut [i32; 4112],
     extent: Extent,
-    wavelet: usize,
+    filter: LiftingFilter,
     n: usize,
 ) -> usize
-    requires { ⌜ Geometry extent (length (now work)) × (length (now coefficients) ≡ length (now work)) × (wavelet ≤ 6) × (n ≤ extent .depth) ⌝ }
-    ensures told { λ r. ⌜ r ≡ firstBadLevel (filterOf wavelet) (extent .«low_rows») (extent .«low_columns») (pictureOf (extent .«padded_width») (now (coefficients .entry))) n ⌝ }
-    ensures done { λ r. ⌜ (r ≡ 0 → Agree (sizeAt (extent .«low_rows») n) (sizeAt (extent .«low_columns») n) (pictureOf (extent .«padded_width» * 2 ^ (extent .depth - n)) (now (work .exit))) (synthesis (filterOf wavelet) (extent .«low_rows») (extent .«low_columns») (pictureOf (extent .«padded_width») (now (coefficients .entry))) n)) ⌝ }
+    requires { ⌜ Geometry extent (length (now work)) × (length (now coefficients) ≡ length (now work)) × WellFormed filter × (n ≤ extent .depth) ⌝ }
+    ensures told { λ r. ⌜ r ≡ firstBadLevel (filterFrom filter) (extent .«low_rows») (extent .«low_columns») (pictureOf (extent .«padded_width») (now (coefficients .entry))) n ⌝ }
+    ensures done { λ r. ⌜ (r ≡ 0 → Agree (sizeAt (extent .«low_rows») n) (sizeAt (extent .«low_columns») n) (pictureOf (extent .«padded_width» * 2 ^ (extent .depth - n)) (now (work .exit))) (synthesis (filterFrom filter) (extent .«low_rows») (extent .«low_columns») (pictureOf (extent .«padded_width») (now (coefficients .entry))) n)) ⌝ }
 {
     if n == 0 {
         copy_low_band(work, coefficients, extent);
         return 0;
     }
     let below = n - 1;
-    let bad = synthesise_levels(work, coefficients, halves, extent, wavelet, below);
+    let bad = synthesise_levels(work, coefficients, halves, extent, filter, below);
     if bad != 0 {
         return bad;
     }
-    if synthesise_level(work, coefficients, halves, extent, wavelet, below) {
+    if synthesise_level(work, coefficients, halves, extent, filter, below) {
         0
     } else {
         n
@@ -80,19 +81,19 @@ fn synthesise_level(
     coefficients: &[i32],
     halves: &mut [i32; 4112],
     extent: Extent,
-    wavelet: usize,
+    filter: LiftingFilter,
     below: usize,
 ) -> bool
-    requires { ⌜ Geometry extent (length (now work)) × (length (now coefficients) ≡ length (now work)) × (wavelet ≤ 6) × (suc below ≤ extent .depth) ⌝ }
-    ensures told { λ r. ⌜ r ≡ allNewFit (sizeAt (extent .«low_rows») (suc below)) (sizeAt (extent .«low_columns») (suc below)) (synthesisPasses (filterOf wavelet)) (interleave (sizeAt (extent .«low_rows») below) (sizeAt (extent .«low_columns») below) (pictureOf (extent .«padded_width» * 2 ^ (extent .depth - below)) (now (work .entry))) (pictureOf (extent .«padded_width») (now (coefficients .entry)))) ⌝ }
-    ensures done { λ r. ⌜ (r ≡ true → Agree (sizeAt (extent .«low_rows») (suc below)) (sizeAt (extent .«low_columns») (suc below)) (pictureOf (extent .«padded_width» * 2 ^ (extent .depth - suc below)) (now (work .exit))) (runAll (sizeAt (extent .«low_rows») (suc below)) (sizeAt (extent .«low_columns») (suc below)) (synthesisPasses (filterOf wavelet)) (interleave (sizeAt (extent .«low_rows») below) (sizeAt (extent .«low_columns») below) (pictureOf (extent .«padded_width» * 2 ^ (extent .depth - below)) (now (work .entry))) (pictureOf (extent .«padded_width») (now (coefficients .entry)))))) ⌝ }
+    requires { ⌜ Geometry extent (length (now work)) × (length (now coefficients) ≡ length (now work)) × WellFormed filter × (suc below ≤ extent .depth) ⌝ }
+    ensures told { λ r. ⌜ r ≡ allNewFit (sizeAt (extent .«low_rows») (suc below)) (sizeAt (extent .«low_columns») (suc below)) (synthesisPasses (filterFrom filter)) (interleave (sizeAt (extent .«low_rows») below) (sizeAt (extent .«low_columns») below) (pictureOf (extent .«padded_width» * 2 ^ (extent .depth - below)) (now (work .entry))) (pictureOf (extent .«padded_width») (now (coefficients .entry)))) ⌝ }
+    ensures done { λ r. ⌜ (r ≡ true → Agree (sizeAt (extent .«low_rows») (suc below)) (sizeAt (extent .«low_columns») (suc below)) (pictureOf (extent .«padded_width» * 2 ^ (extent .depth - suc below)) (now (work .exit))) (runAll (sizeAt (extent .«low_rows») (suc below)) (sizeAt (extent .«low_columns») (suc below)) (synthesisPasses (filterFrom filter)) (interleave (sizeAt (extent .«low_rows») below) (sizeAt (extent .«low_columns») below) (pictureOf (extent .«padded_width» * 2 ^ (extent .depth - below)) (now (work .entry))) (pictureOf (extent .«padded_width») (now (coefficients .entry)))))) ⌝ }
 {
     let frame = next_frame(extent, below);
     let most = interleave_bands(work, coefficients, extent.padded_width, frame);
-    if !filter_columns(work, frame, wavelet, most) {
+    if !filter_columns(work, frame, filter, most) {
         return false;
     }
-    filter_rows(work, halves, frame, wavelet)
+    filter_rows(work, halves, frame, filter)
 }
 
 // Builds the picture of the last level likewise. Its first rows and columns go to the samples, and the work plane is zeroed. False where it
@@ -103,23 +104,23 @@ fn finish_level(
     coefficients: &[i32],
     halves: &mut [i32; 4112],
     extent: Extent,
-    wavelet: usize,
+    filter: LiftingFilter,
     below: usize,
     width: usize,
     height: usize,
 ) -> bool
-    requires { ⌜ Geometry extent (length (now work)) × (length (now coefficients) ≡ length (now work)) × (wavelet ≤ 6) × (suc below ≡ extent .depth) ⌝ }
+    requires { ⌜ Geometry extent (length (now work)) × (length (now coefficients) ≡ length (now work)) × WellFormed filter × (suc below ≡ extent .depth) ⌝ }
     requires { ⌜ (width ≤ sizeAt (extent .«low_columns») (suc below)) × (height ≤ sizeAt (extent .«low_rows») (suc below)) × (height * width ≤ length (now samples)) ⌝ }
-    ensures told { λ r. ⌜ r ≡ allNewFit (sizeAt (extent .«low_rows») (suc below)) (sizeAt (extent .«low_columns») (suc below)) (synthesisPasses (filterOf wavelet)) (interleave (sizeAt (extent .«low_rows») below) (sizeAt (extent .«low_columns») below) (pictureOf (extent .«padded_width» * 2 ^ (extent .depth - below)) (now (work .entry))) (pictureOf (extent .«padded_width») (now (coefficients .entry)))) ⌝ }
-    ensures done { λ r. ⌜ (r ≡ true → Agree height width (pictureOf width (now (samples .exit))) (runAll (sizeAt (extent .«low_rows») (suc below)) (sizeAt (extent .«low_columns») (suc below)) (synthesisPasses (filterOf wavelet)) (interleave (sizeAt (extent .«low_rows») below) (sizeAt (extent .«low_columns») below) (pictureOf (extent .«padded_width» * 2 ^ (extent .depth - below)) (now (work .entry))) (pictureOf (extent .«padded_width») (now (coefficients .entry)))))) ⌝ }
+    ensures told { λ r. ⌜ r ≡ allNewFit (sizeAt (extent .«low_rows») (suc below)) (sizeAt (extent .«low_columns») (suc below)) (synthesisPasses (filterFrom filter)) (interleave (sizeAt (extent .«low_rows») below) (sizeAt (extent .«low_columns») below) (pictureOf (extent .«padded_width» * 2 ^ (extent .depth - below)) (now (work .entry))) (pictureOf (extent .«padded_width») (now (coefficients .entry)))) ⌝ }
+    ensures done { λ r. ⌜ (r ≡ true → Agree height width (pictureOf width (now (samples .exit))) (runAll (sizeAt (extent .«low_rows») (suc below)) (sizeAt (extent .«low_columns») (suc below)) (synthesisPasses (filterFrom filter)) (interleave (sizeAt (extent .«low_rows») below) (sizeAt (extent .«low_columns») below) (pictureOf (extent .«padded_width» * 2 ^ (extent .depth - below)) (now (work .entry))) (pictureOf (extent .«padded_width») (now (coefficients .entry)))))) ⌝ }
     ensures cleared { λ r. ⌜ (r ≡ true → now (work .exit) ≡ zerosLike (now (work .entry))) ⌝ }
 {
     let frame = next_frame(extent, below);
     let most = interleave_bands(work, coefficients, extent.padded_width, frame);
-    if !filter_columns(work, frame, wavelet, most) {
+    if !filter_columns(work, frame, filter, most) {
         return false;
     }
-    finish_rows(work, samples, halves, frame, wavelet, width, height)
+    finish_rows(work, samples, halves, frame, filter, width, height)
 }
 
 // Builds the levels below the last in the work plane and the last one in the samples, of which there is the component's first rows and columns.
@@ -130,18 +131,18 @@ pub fn synthesise_samples(
     samples: &mut [i32],
     coefficients: &[i32],
     extent: Extent,
-    wavelet: usize,
+    filter: LiftingFilter,
     width: usize,
     height: usize,
 ) -> usize
-    requires { ⌜ Geometry extent (length (now work)) × (length (now coefficients) ≡ length (now work)) × (wavelet ≤ 6) × (1 ≤ extent .depth) ⌝ }
+    requires { ⌜ Geometry extent (length (now work)) × (length (now coefficients) ≡ length (now work)) × WellFormed filter × (1 ≤ extent .depth) ⌝ }
     requires { ⌜ (width ≤ sizeAt (extent .«low_columns») (extent .depth)) × (height ≤ sizeAt (extent .«low_rows») (extent .depth)) × (height * width ≤ length (now samples)) ⌝ }
-    ensures told { λ r. ⌜ r ≡ firstBadLevel (filterOf wavelet) (extent .«low_rows») (extent .«low_columns») (pictureOf (extent .«padded_width») (now (coefficients .entry))) (extent .depth) ⌝ }
-    ensures done { λ r. ⌜ (r ≡ 0 → Agree height width (pictureOf width (now (samples .exit))) (synthesis (filterOf wavelet) (extent .«low_rows») (extent .«low_columns») (pictureOf (extent .«padded_width») (now (coefficients .entry))) (extent .depth)) × (now (work .exit) ≡ zerosLike (now (work .entry)))) ⌝ }
+    ensures told { λ r. ⌜ r ≡ firstBadLevel (filterFrom filter) (extent .«low_rows») (extent .«low_columns») (pictureOf (extent .«padded_width») (now (coefficients .entry))) (extent .depth) ⌝ }
+    ensures done { λ r. ⌜ (r ≡ 0 → Agree height width (pictureOf width (now (samples .exit))) (synthesis (filterFrom filter) (extent .«low_rows») (extent .«low_columns») (pictureOf (extent .«padded_width») (now (coefficients .entry))) (extent .depth)) × (now (work .exit) ≡ zerosLike (now (work .entry)))) ⌝ }
 {
     let mut halves = [0i32; 4112];
     let below = extent.depth - 1;
-    let bad = synthesise_levels(work, coefficients, &mut halves, extent, wavelet, below);
+    let bad = synthesise_levels(work, coefficients, &mut halves, extent, filter, below);
     if bad != 0 {
         return bad;
     }
@@ -151,7 +152,7 @@ pub fn synthesise_samples(
         coefficients,
         &mut halves,
         extent,
-        wavelet,
+        filter,
         below,
         width,
         height,

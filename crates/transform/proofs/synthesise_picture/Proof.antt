@@ -58,20 +58,25 @@ cast-width c = search needs
 cast-height : tie.Need-cast-height
 cast-height c = search needs
 
-cast-wavelet : tie.Need-cast-wavelet
-cast-wavelet c = search needs
+cast-filter-of : tie.Need-cast-filter-of
+cast-filter-of c = search needs
+
+filter-of-requires : tie.Need-filter-of-requires
+filter-of-requires c κs =
+    let start = c .before .before .before .before .before .before in
+    wavelet-most (start .args .p) (start .pre .0 .2)
 
 synthesise-samples-requires : tie.Need-synthesise-samples-requires
 unfolding extentOf
 synthesise-samples-requires c κs =
-    let start = c .before .before .before .before .before .before .before .before in
+    let start = c .before .before .before .before .before .before .before .before .before in
     let p = start .args .p in
-    let back = sym (c .before .before .before .before .before .before .before .extent-of .ensures) in (
+    let back = sym (c .before .before .before .before .before .before .before .before .extent-of .ensures) in (
       (
         subst (λ (e : Extent). Geometry e (length (now (start .args .work)))) back (geometry-of p (start .pre .0 .0) (start .pre .0 .1) _ (start .pre .1 .1)),
         start .pre .1 .0 ∙ sym (start .pre .1 .1),
-        wavelet-most p (start .pre .0 .2),
-        omega (arith, c .before .before .before .before .before .if1 .left),
+        c .before .before .filter-of .ensures .1,
+        omega (arith, c .before .before .before .before .before .before .if1 .left),
       ),
       (
         subst (λ (e : Extent). p .width ≤ sizeAt (e .«low_columns») (e .depth)) back (rw (sizeAt-padded (p .depth) (p .width)) (padded-least (p .depth) (p .width))),
@@ -89,20 +94,21 @@ same-length-4 c = search needs
 returns-2 : tie.Need-returns-2
 unfolding badLevel pictureFrom extentOf
 returns-2 c =
-    let start = c .before .before .before .before .before .before .before .before .before .before .before in
+    let start = c .before .before .before .before .before .before .before .before .before .before .before .before in
     let p = start .args .p in
     let coefficients = now (start .args .coefficients) in
-    let is = c .before .before .before .before .before .before .before .before .before .before .extent-of .ensures in
+    let is = c .before .before .before .before .before .before .before .before .before .before .before .extent-of .ensures in
+    let same = c .before .before .before .before .before .filter-of .ensures .0 in
     let made = c .before .before .synthesise-samples in (
       subst
           (λ (e : Extent). made .result ≡ firstBadLevel (filterOf (p .wavelet)) (e .«low_rows») (e .«low_columns») (pictureOf (e .«padded_width») coefficients) (e .depth))
-          is (made .ensures .0),
+          is (rw same at (made .ensures .0)),
       λ none. (
         sym (raster-is (p .height) (p .width) (pictureFrom p coefficients) (made .last .1 .0) (width-least p (start .pre .0 .0)) (made .kept .1 .0 ∙ start .pre .1 .2 ∙ mul-comm (p .width) (p .height))
             (λ row x r i. sym
             (subst
             (λ (e : Extent). Agree (p .height) (p .width) (pictureOf (p .width) (made .last .1 .0)) (synthesis (filterOf (p .wavelet)) (e .«low_rows») (e .«low_columns») (pictureOf (e .«padded_width») coefficients) (e .depth)))
-            is (made .ensures .1 none .0) row x r i))),
+            is (rw same at (made .ensures .1 none .0)) row x r i))),
         made .ensures .1 none .1,
       ),
     )
@@ -119,7 +125,8 @@ synthesise-picture-spec =
     returns
     cast-width
     cast-height
-    cast-wavelet
+    cast-filter-of
+    filter-of-requires
     synthesise-samples-requires
     same-length-3
     same-length-4

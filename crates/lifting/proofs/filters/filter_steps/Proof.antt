@@ -70,8 +70,7 @@ loop-again c =
 
 returns : tie.Need-returns Inv-loop μ-loop
 returns c =
-    λ k other h.
-    c .before .loop .inv .3 k (omega (arith, h, c .loop-test .left, c .before .before .step-count .ensures)) other
+    (λ k other h. c .before .loop .inv .3 k (omega (arith, h, c .loop-test .left, c .before .before .step-count .ensures)) other, c .before .loop .inv .2)
 
 pub filter-steps-spec : {M : Type 1} → statement M
 filter-steps-spec =

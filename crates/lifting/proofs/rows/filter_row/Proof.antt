@@ -1,12 +1,12 @@
 -- `lifting::rows::filter_row` meets its contract: what the steps make of the row in the line buffer is woven back.
 -- Assumes nothing.
-use mathlib.Core.Path.{sym, _∙_}
+use mathlib.Core.Path.{refl, sym, _∙_}
 use mathlib.Core.Bool.{false≢true}
 use Prim.Native.Nat.{_*_}
 use native.Mathlib.Omega.{arith}
 use borrow.Author.Needs.{needs}
 use borrow.Author.Tests.{not-true, not-false}
-use Rattle.lifting.specs.Filters.{filterOf}
+use Rattle.lifting.specs.Table.{filterFrom}
 use Rattle.lifting.proofs.PlaneRows.{row-woven}
 use Rattle.lifting.proofs.rows.filter_row.Statement.{statement}
 use Rattle.lifting.proofs.rows.filter_row.Tie as tie
@@ -23,9 +23,6 @@ returns c = (sym (not-true _ (c .if1 .taken)) ∙ c .before .filter-row-halves .
 mul-weave : tie.Need-mul-weave
 mul-weave c = search needs
 
-has-shift-requires : tie.Need-has-shift-requires
-has-shift-requires c κs = search needs
-
 weave-requires : tie.Need-weave-requires
 weave-requires c κs = search needs
 
@@ -34,15 +31,14 @@ same-length-2 c = search needs
 
 returns-2 : tie.Need-returns-2
 returns-2 c =
-    let asked = c .before .before .has-shift in
-    let tested = c .before .before .before .before .before in
+    let tested = c .before .before .before .before in
     let filtered = tested .before .filter-row-halves in
     let args = tested .before .before .before .before .args in
     let went = not-false _ (tested .if1 .left) in (
       sym went ∙ filtered .ensures .0,
       λ fits. c .before .weave .ensures
-          ∙ row-woven (filterOf (args .wavelet) .steps) (filterOf (args .wavelet) .shift) (args .half) (args .place) (args .work .now) _
-          (asked .result) (asked .ensures) (filtered .ensures .1 went) (args .work .now) (args .place) (2 * args .half) (omega arith),
+          ∙ row-woven (filterFrom (args .filter) .steps) (args .filter .shift) (args .half) (args .place) (args .work .now) _
+          _ refl (filtered .ensures .1 went) (args .work .now) (args .place) (2 * args .half) (omega arith),
     )
 
 pub filter-row-spec : {M : Type 1} → statement M
@@ -53,7 +49,6 @@ filter-row-spec =
     same-length
     returns
     mul-weave
-    has-shift-requires
     weave-requires
     same-length-2
     returns-2)

@@ -7,7 +7,7 @@ use borrow.Author.Needs.{needs}
 use lib.IntN.{pos}
 use lib.ListN.{getD}
 use Rattle.lines.specs.Buffers.{woven}
-use Rattle.lifting.specs.Filters.{filterOf}
+use Rattle.lifting.specs.Table.{filterFrom}
 use Rattle.lifting.specs.Layout.{halfPlace}
 use Rattle.lifting.proofs.HalfLaws.{halves-copied, halves-measured}
 use Rattle.lifting.proofs.PlaneRows.{row-told, row-run}
@@ -29,11 +29,11 @@ copy-measured-requires-2 c κs = search needs
 cast-high-most : tie.Need-cast-high-most
 cast-high-most c = search needs
 
-add-t16 : tie.Need-add-t16
-add-t16 c = record { fits = omega (arith, c .before .before .copy-measured .ok) }
+add-t15 : tie.Need-add-t15
+add-t15 c = record { fits = omega (arith, c .before .before .copy-measured .ok) }
 
-add-t17 : tie.Need-add-t17
-add-t17 c = record { fits = omega (arith, c .copy-measured2 .ok) }
+add-t16 : tie.Need-add-t16
+add-t16 c = record { fits = omega (arith, c .copy-measured2 .ok) }
 
 filter-halves-requires : tie.Need-filter-halves-requires
 filter-halves-requires c κs =
@@ -46,7 +46,7 @@ filter-halves-requires c κs =
     halves-measured (start .args .half) (start .args .place) (start .args .work .now) (start .args .halves .now) (low .last .0) (high .last .0) (start .pre .1) (omega arith)
     (low .ensures .0) (high .ensures .0) (low .result) (high .result) (low .ensures .1) (high .ensures .1)
     in (
-      (start .pre .0, start .pre .1, start .pre .3, start .pre .4),
+      (start .pre .0, start .pre .1, start .pre .3),
       (omega (arith, low .ok), omega (arith, high .ok), within .0, within .1),
     )
 
@@ -66,7 +66,7 @@ returns : tie.Need-returns
 returns c =
     let second = c .before .before in
     let start = second .before .before .before .before in
-    let steps = filterOf (start .args .wavelet) .steps in
+    let steps = filterFrom (start .args .filter) .steps in
     let halves = second .copy-measured2 .last .0 in (
       c .filter-halves .ensures .0
           ∙ row-told steps (start .args .half) (start .args .place) (start .pre .0) (start .args .work .now) halves (copied second),
@@ -84,7 +84,7 @@ filter-row-halves-spec =
     add-copy-measured
     copy-measured-requires-2
     cast-high-most
+    add-t15
     add-t16
-    add-t17
     filter-halves-requires
     returns)

@@ -1,10 +1,10 @@
 -- `lifting::rows::finish_row` meets its contract: what the steps make of the row is woven into the samples, and the row is zeroed.
 -- Assumes nothing.
-use mathlib.Core.Path.{sym, _∙_}
+use mathlib.Core.Path.{refl, sym, _∙_}
 use mathlib.Core.Bool.{false≢true}
 use borrow.Author.Needs.{needs}
 use borrow.Author.Tests.{not-true, not-false}
-use Rattle.lifting.specs.Filters.{filterOf}
+use Rattle.lifting.specs.Table.{filterFrom}
 use Rattle.lifting.proofs.PlaneRows.{row-woven}
 use Rattle.lifting.proofs.rows.finish_row.Statement.{statement}
 use Rattle.lifting.proofs.rows.finish_row.Tie as tie
@@ -18,9 +18,6 @@ same-length c = search needs
 returns : tie.Need-returns
 returns c =
     (sym (not-true _ (c .if1 .taken)) ∙ c .before .filter-row-halves .ensures .0, (λ wrong. absurd (false≢true wrong), λ wrong. absurd (false≢true wrong)))
-
-has-shift-requires : tie.Need-has-shift-requires
-has-shift-requires c κs = search needs
 
 weave-requires : tie.Need-weave-requires
 weave-requires c κs = search needs
@@ -40,8 +37,7 @@ same-length-3 c = search needs
 returns-2 : tie.Need-returns-2
 returns-2 c =
     let stored = c .before .before .before .before in
-    let asked = stored .before .has-shift in
-    let tested = stored .before .before .before .before in
+    let tested = stored .before .before .before in
     let filtered = tested .before .filter-row-halves in
     let start = tested .before .before .before .before in
     let args = start .args in
@@ -49,8 +45,8 @@ returns-2 c =
       sym went ∙ filtered .ensures .0,
       (
         λ fits. stored .weave .ensures
-            ∙ row-woven (filterOf (args .wavelet) .steps) (filterOf (args .wavelet) .shift) (args .half) (args .place) (args .work .now) _
-            (asked .result) (asked .ensures) (filtered .ensures .1 went) (args .samples .now) (args .to) (args .count) (start .pre .1 .0),
+            ∙ row-woven (filterFrom (args .filter) .steps) (args .filter .shift) (args .half) (args .place) (args .work .now) _
+            _ refl (filtered .ensures .1 went) (args .samples .now) (args .to) (args .count) (start .pre .1 .0),
         λ fits. c .before .zero-part .ensures,
       ),
     )
@@ -62,7 +58,6 @@ finish-row-spec =
     filter-row-halves-requires
     same-length
     returns
-    has-shift-requires
     weave-requires
     mul-zero-part
     zero-part-requires

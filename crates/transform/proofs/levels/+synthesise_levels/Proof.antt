@@ -10,7 +10,7 @@ use denote.Ref.{now}
 use borrow.Fn.Kinds.{In}
 use borrow.Fn.PlainCycle.{Measures, is, falls, and}
 use Rattle.component.specs.Sizes.{sizeAt}
-use Rattle.lifting.specs.Filters.{filterOf}
+use Rattle.lifting.specs.Table.{filterFrom}
 use Rattle.lifting.specs.Layout.{Agree}
 use Rattle.lifting.specs.Passes.{Picture}
 use Rattle.lifting.specs.Planes.{pictureOf}
@@ -51,13 +51,13 @@ module _ (t : ℕ) where
   coefficient-picture c = pictureOf (c .args .extent .«padded_width») (now (c .args .coefficients))
 
   abbrev first-bad : Entry → ℕ → ℕ
-  first-bad c k = firstBadLevel (filterOf (c .args .wavelet)) (c .args .extent .«low_rows») (c .args .extent .«low_columns») (coefficient-picture c) k
+  first-bad c k = firstBadLevel (filterFrom (c .args .filter)) (c .args .extent .«low_rows») (c .args .extent .«low_columns») (coefficient-picture c) k
 
   abbrev Built : Entry → List ℤ → ℕ → Type 0
   Built c plane k =
       Agree (sizeAt (c .args .extent .«low_rows») k) (sizeAt (c .args .extent .«low_columns») k)
       (pictureOf (c .args .extent .«padded_width» * 2 ^ (c .args .extent .depth - k)) plane)
-      (synthesis (filterOf (c .args .wavelet)) (c .args .extent .«low_rows») (c .args .extent .«low_columns») (coefficient-picture c) k)
+      (synthesis (filterFrom (c .args .filter)) (c .args .extent .«low_rows») (c .args .extent .«low_columns») (coefficient-picture c) k)
 
   copy-low-band-requires : levels-lts.Need-copy-low-band-requires (
     copy-low-band-reads.Asked,
@@ -142,7 +142,7 @@ module _ (t : ℕ) where
       let some = c .if2 .taken in (
         told
             ∙ subst (λ (k : ℕ). first-bad start (n - 1) ≡ first-bad start k) up
-            (bad-below (filterOf (start .args .wavelet)) _ _ (start .pre .1 .0 .rows-least) (start .pre .1 .0 .columns-least) (coefficient-picture start) (n - 1) (λ e. some (told ∙ e))),
+            (bad-below (filterFrom (start .args .filter)) _ _ (start .pre .1 .0 .rows-least) (start .pre .1 .0 .columns-least) (coefficient-picture start) (n - 1) (λ e. some (told ∙ e))),
         λ e. absurd (some e),
       )
 
@@ -190,13 +190,13 @@ module _ (t : ℕ) where
       let level = c .before .before .synthesise-level in
       let none = c .before .before .before .before .before .if2 .left in
       let below : Picture = pictureOf (start .args .extent .«padded_width» * 2 ^ (start .args .extent .depth - (n - 1))) (rest .last .0) in
-      let fits = level-fits (filterOf (start .args .wavelet)) _ _ (g .rows-least) (g .columns-least) (coefficient-picture start) (n - 1) below (rest .ensures .1 none) in (
+      let fits = level-fits (filterFrom (start .args .filter)) _ _ (g .rows-least) (g .columns-least) (coefficient-picture start) (n - 1) below (rest .ensures .1 none) in (
         subst (λ (k : ℕ). 0 ≡ first-bad start k) up
-            (bad-none (filterOf (start .args .wavelet)) _ _ (g .rows-least) (g .columns-least) (coefficient-picture start) (n - 1) (sym (rest .ensures .0) ∙ none)
+            (bad-none (filterFrom (start .args .filter)) _ _ (g .rows-least) (g .columns-least) (coefficient-picture start) (n - 1) (sym (rest .ensures .0) ∙ none)
             (sym fits ∙ sym (level .ensures .0) ∙ c .if3 .taken)),
         λ e.
             subst (λ (k : ℕ). Built start (level .last .0) k) up
-            (level-picture (filterOf (start .args .wavelet)) _ _ (g .rows-least) (g .columns-least) (coefficient-picture start) (n - 1) below (rest .ensures .1 none)
+            (level-picture (filterFrom (start .args .filter)) _ _ (g .rows-least) (g .columns-least) (coefficient-picture start) (n - 1) below (rest .ensures .1 none)
             (pictureOf (start .args .extent .«padded_width» * 2 ^ (start .args .extent .depth - suc (n - 1))) (level .last .0)) (level .ensures .1 (c .if3 .taken))),
       )
 
@@ -227,9 +227,9 @@ module _ (t : ℕ) where
       let level = c .before .before .synthesise-level in
       let none = c .before .before .before .before .before .if2 .left in
       let below : Picture = pictureOf (start .args .extent .«padded_width» * 2 ^ (start .args .extent .depth - (n - 1))) (rest .last .0) in
-      let fits = level-fits (filterOf (start .args .wavelet)) _ _ (g .rows-least) (g .columns-least) (coefficient-picture start) (n - 1) below (rest .ensures .1 none) in (
+      let fits = level-fits (filterFrom (start .args .filter)) _ _ (g .rows-least) (g .columns-least) (coefficient-picture start) (n - 1) below (rest .ensures .1 none) in (
         subst (λ (k : ℕ). k ≡ first-bad start k) up
-            (bad-here (filterOf (start .args .wavelet)) _ _ (g .rows-least) (g .columns-least) (coefficient-picture start) (n - 1) (sym (rest .ensures .0) ∙ none)
+            (bad-here (filterFrom (start .args .filter)) _ _ (g .rows-least) (g .columns-least) (coefficient-picture start) (n - 1) (sym (rest .ensures .0) ∙ none)
             (sym fits ∙ sym (level .ensures .0) ∙ c .if3 .left)),
         λ e. absurd (c .before .before .before .before .before .before .before .before .before .before .if1 .left e),
       )

@@ -10,7 +10,7 @@ use lib.IntN.{ℤ}
 use lib.ListN.{length}
 use denote.Ref.{now}
 use Rattle.component.specs.Sizes.{sizeAt}
-use Rattle.lifting.specs.Filters.{filterOf}
+use Rattle.lifting.specs.Table.{filterFrom}
 use Rattle.lifting.specs.Layout.{Agree, Placed, halvesOf}
 use Rattle.lifting.specs.Passes.{Picture, allNewFit, runAll}
 use Rattle.lifting.specs.Planes.{pictureOf}
@@ -81,8 +81,8 @@ returns c =
     let frame = framed .next-frame .result in
     let sizes = placed-in framed (start-work framed) refl in (
       by-extent framed
-          (λ bh bw s s2. false ≡ allNewFit (2 * bh) (2 * bw) (synthesisPasses (filterOf (framed .before .args .wavelet))) (interleave bh bw (pictureOf s2 (start-work framed)) (coefficient-picture framed)))
-          (level-fails (filterOf (framed .before .args .wavelet)) (frame .«band_rows») (frame .«band_columns») (sizes .rows-least) (sizes .columns-least) (woven framed)
+          (λ bh bw s s2. false ≡ allNewFit (2 * bh) (2 * bw) (synthesisPasses (filterFrom (framed .before .args .filter))) (interleave bh bw (pictureOf s2 (start-work framed)) (coefficient-picture framed)))
+          (level-fails (filterFrom (framed .before .args .filter)) (frame .«band_rows») (frame .«band_columns») (sizes .rows-least) (sizes .columns-least) (woven framed)
           (pictureOf (frame .stride) (c .before .before .before .before .before .interleave-bands .last .0)) (c .before .before .before .before .before .interleave-bands .ensures .0)
           (sym (c .before .before .filter-columns .ensures .0) ∙ not-true _ (c .if1 .taken))),
       λ e. let z : _≡_ {A = ℕ} 0 1 = cc in absurd (omega arith),
@@ -101,7 +101,7 @@ returns-2 c =
     let framed = c .before .before .before .before .before .before .before .before .before .before .before in
     let frame = framed .next-frame .result in
     let sizes = placed-in framed (start-work framed) refl in
-    let filter = filterOf (framed .before .args .wavelet) in
+    let filter = filterFrom (framed .before .args .filter) in
     let columns-ok = c .before .before .before .before .before .before .filter-columns in
     let rows-ok = c .before .filter-rows in
     let passed = sym (columns-ok .ensures .0) ∙ not-false _ (c .before .before .before .before .if1 .left) in

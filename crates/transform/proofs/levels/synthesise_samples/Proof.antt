@@ -9,7 +9,8 @@ use lib.ListN.{length}
 use denote.Ref.{now}
 use Rattle.base.proofs.Fills.{zeros-length}
 use Rattle.component.specs.Sizes.{sizeAt}
-use Rattle.lifting.specs.Filters.{Filter, filterOf}
+use Rattle.lifting.specs.Filters.{Filter}
+use Rattle.lifting.specs.Table.{filterFrom}
 use Rattle.lifting.specs.Layout.{Agree}
 use Rattle.lifting.specs.Passes.{Picture, runAll}
 use Rattle.lifting.specs.Planes.{pictureOf}
@@ -22,7 +23,7 @@ use Rattle.transform.proofs.levels.synthesise_samples.Tie as tie
 -- what the contract speaks of, from the function's entry
 module _ (s : tie.Start) where
   abbrev filter : Filter
-  filter = filterOf (s .args .wavelet)
+  filter = filterFrom (s .args .filter)
 
   abbrev rows : ℕ
   rows = s .args .extent .«low_rows»
