@@ -14,7 +14,7 @@ use Rattle.base.specs.Fill.{zerosLike}
 use Rattle.component.specs.Sizes.{sizeAt, paddedSize}
 use Rattle.component.specs.Checks.{sizesInRange, depthInRange, areaOf}
 use Rattle.component.specs.declared.parameters.Parameters.{Parameters}
-use Rattle.component.proofs.SizeLaws.{sizeAt-power, sizeAt-mono, sizeAt-least, sizeAt-rest, sizeAt-padded, low-some, padded-most}
+use Rattle.component.proofs.SizeLaws.{sizeAt-power, sizeAt-mono, sizeAt-least, sizeAt-rest, sizeAt-padded, low-some, padded-least, padded-most}
 use Rattle.component.proofs.CheckLaws.{width-least, width-most, height-least, height-most, depth-most}
 use Rattle.lifting.specs.Layout.{Placed}
 use Rattle.lifting.specs.Planes.{pictureOf}
@@ -134,4 +134,6 @@ geometry-of p sizes depth area is =
       width-most = padded-most (p .depth) deep (p .width) (width-most p sizes);
       height-most = rw (sizeAt-padded (p .depth) (p .height)) (padded-most (p .depth) deep (p .height) (height-most p sizes));
       whole = rw (sizeAt-padded (p .depth) (p .height)) (mul-comm (paddedSize (p .depth) (p .height)) (paddedSize (p .depth) (p .width)) ∙ sym is);
+      narrower = rw (sizeAt-padded (p .depth) (p .width)) (padded-least (p .depth) (p .width));
+      shorter = rw (sizeAt-padded (p .depth) (p .height)) (padded-least (p .depth) (p .height));
     }

@@ -36,11 +36,18 @@ band-size-requires-2 c κs =
     let start = c .before .before .before .before .before .before in
     (depth-most (start .args .p) (start .pre .1), omega arith)
 
+cast-t7 : tie.Need-cast-t7
+cast-t7 c = search needs
+
+cast-t8 : tie.Need-cast-t8
+cast-t8 c = search needs
+
 returns : tie.Need-returns
 unfolding extentOf
 returns c =
-    let sized = c .before .before in
-    rw (c .band-size2 .ensures, c .before .band-size .ensures, sized .padded-size2 .ensures, sized .before .before .padded-size .ensures)
+    let low = c .before .before in
+    let sized = low .before .before in
+    rw (low .band-size2 .ensures, low .before .band-size .ensures, sized .padded-size2 .ensures, sized .before .before .padded-size .ensures)
 
 pub extent-of-spec : {M : Type 1} → statement M
 extent-of-spec =
@@ -53,4 +60,6 @@ extent-of-spec =
     padded-size-requires-2
     band-size-requires
     band-size-requires-2
+    cast-t7
+    cast-t8
     returns)

@@ -2,44 +2,45 @@
 -- depth 0, and each level is built on the picture that the call of itself left in the work plane.
 -- Assumes nothing.
 use mathlib.Core.Path.{_≡_, refl, sym, _∙_, subst}
-use Prim.Native.Nat.{ℕ, suc, _-_, _*_, _^_, _<_}
+use Prim.Native.Nat.{ℕ, suc, _-_, _≤_, _<_}
 use native.Mathlib.Omega.{arith}
 use mathlib.Core.List.{List}
 use lib.IntN.{ℤ}
+use lib.ListN.{length}
 use denote.Ref.{now}
 use borrow.Fn.Kinds.{In}
 use borrow.Fn.PlainCycle.{Measures, is, falls, and}
+use Rattle.base.proofs.Fills.{zeros-length}
 use Rattle.component.specs.Sizes.{sizeAt}
-use Rattle.lifting.specs.Table.{filterFrom}
-use Rattle.lifting.specs.Layout.{Agree}
+use Rattle.lifting.specs.Filters.{Filter}
 use Rattle.lifting.specs.Passes.{Picture}
-use Rattle.lifting.specs.Planes.{pictureOf}
-use Rattle.transform.specs.Geometry.{Geometry}
+use Rattle.lifting.specs.Table.{filterFrom}
+use Rattle.transform.specs.Geometry.{Geometry, Stands, coefficientPicture, workPicture, pictureAt, firstBadAt, levelInput, levelPicture}
 use Rattle.transform.specs.Synthesis.{synthesis, firstBadLevel}
 use Rattle.transform.proofs.Recursion.{bad-below, bad-none, bad-here, level-fits, level-picture}
 use Rattle.transform.proofs.levels.synthesise_levels.Reads as levels
 use Rattle.transform.proofs.levels.synthesise_levels.Kinds as levels-kinds
 use Rattle.transform.proofs.levels.+synthesise_levels.Lts-synthesise_levels as levels-lts
-use Rattle.transform.proofs.levels.copy_low_band.Reads as copy-low-band-reads
+use Rattle.transform.proofs.levels.put_low_band.Reads as put-low-band-reads
 use Rattle.transform.proofs.levels.synthesise_level.Reads as synthesise-level-reads
 use Rattle.transform.proofs.levels.+synthesise_levels.{statement}
 use Rattle.transform.proofs.levels.+synthesise_levels.Tie.{close}
 
-abbrev μ-levels : Measures 3 levels-kinds.ps ℕ
-μ-levels κs a = a .1 .1 .1 .1 .1 .0
+abbrev μ-levels : Measures 4 levels-kinds.ps ℕ
+μ-levels κs a = a .1 .1 .1 .1 .1 .1 .0
 
 -- what the function is given at the measure t, and what a call of it asks below t
-abbrev levels-at : ℕ → In 3 levels-kinds.ps
-levels-at t = and 3 levels-kinds.ps (is 3 levels-kinds.ps μ-levels t) levels.Pre
+abbrev levels-at : ℕ → In 4 levels-kinds.ps
+levels-at t = and 4 levels-kinds.ps (is 4 levels-kinds.ps μ-levels t) levels.Pre
 
-abbrev levels-below : ℕ → In 3 levels-kinds.ps
-levels-below t = and 3 levels-kinds.ps (falls 3 levels-kinds.ps _<_ μ-levels t) levels.Pre
+abbrev levels-below : ℕ → In 4 levels-kinds.ps
+levels-below t = and 4 levels-kinds.ps (falls 4 levels-kinds.ps _<_ μ-levels t) levels.Pre
 
 module _ (t : ℕ) where
   abbrev Entry : Type 0
   Entry = levels-lts.Start (
-    copy-low-band-reads.Asked,
-    copy-low-band-reads.Learnt,
+    put-low-band-reads.Asked,
+    put-low-band-reads.Learnt,
     levels-below t,
     levels.Post,
     synthesise-level-reads.Asked,
@@ -47,56 +48,97 @@ module _ (t : ℕ) where
   ) (levels-at t) levels.Post
 
   -- what the contract speaks of, from the function's entry
-  abbrev coefficient-picture : Entry → Picture
-  coefficient-picture c = pictureOf (c .args .extent .«padded_width») (now (c .args .coefficients))
+  module _ (c : Entry) where
+    abbrev filter : Filter
+    filter = filterFrom (c .args .filter)
 
-  abbrev first-bad : Entry → ℕ → ℕ
-  first-bad c k = firstBadLevel (filterFrom (c .args .filter)) (c .args .extent .«low_rows») (c .args .extent .«low_columns») (coefficient-picture c) k
+    abbrev rows : ℕ
+    rows = c .args .extent .«low_rows»
 
-  abbrev Built : Entry → List ℤ → ℕ → Type 0
-  Built c plane k =
-      Agree (sizeAt (c .args .extent .«low_rows») k) (sizeAt (c .args .extent .«low_columns») k)
-      (pictureOf (c .args .extent .«padded_width» * 2 ^ (c .args .extent .depth - k)) plane)
-      (synthesis (filterFrom (c .args .filter)) (c .args .extent .«low_rows») (c .args .extent .«low_columns») (coefficient-picture c) k)
+    abbrev columns : ℕ
+    columns = c .args .extent .«low_columns»
 
-  copy-low-band-requires : levels-lts.Need-copy-low-band-requires (
-    copy-low-band-reads.Asked,
-    copy-low-band-reads.Learnt,
+    abbrev coefficients : Picture
+    coefficients = coefficientPicture (c .args .extent) (now (c .args .coefficients))
+
+    abbrev first-bad : ℕ → ℕ
+    first-bad k = firstBadAt (c .args .filter) (c .args .extent) (now (c .args .coefficients)) k
+
+    abbrev picture : ℕ → Picture
+    picture k = pictureAt (c .args .filter) (c .args .extent) (now (c .args .coefficients)) k
+
+    -- the level below
+    abbrev below : ℕ
+    below = c .args .n - 1
+
+  -- a level's picture on the picture below is the picture of the next depth
+  next-stands :
+      (c : Entry) (some : suc (below c) ≡ c .args .n) (rest work samples : List ℤ)
+      → Stands (c .args .extent) (below c) (picture c (below c)) (now (c .args .work)) rest samples
+      → length rest ≡ length (now (c .args .work))
+      → (last : List ℤ) → Stands (c .args .extent) (suc (below c)) (levelPicture (c .args .filter) (c .args .extent) (below c) (levelInput (c .args .extent) rest (now (c .args .coefficients)) (below c))) rest work last
+      → Stands (c .args .extent) (c .args .n) (picture c (c .args .n)) (now (c .args .work)) work last
+  next-stands c some rest work samples stood long last stands =
+      let g = c .pre .1 .0 .0 in
+      let deep : below c < c .args .extent .depth = omega (arith, c .pre .1 .1 .1) in
+      let same = level-picture (filter c) (rows c) (columns c) (g .rows-least) (g .columns-least) (coefficients c) (below c) (workPicture (c .args .extent) (below c) rest) (stood .in-work deep) in
+      let built = same _ (λ row x r i. refl) in
+      subst (λ (k : ℕ). Stands (c .args .extent) k (picture c k) (now (c .args .work)) work last) some
+      (record {
+        in-work = λ less. same _ (stands .in-work less);
+        in-samples = λ here row x r i.
+            stands .in-samples here row x r i
+            ∙ built row x (omega (arith, subst (λ (k : ℕ). c .args .extent .height ≤ sizeAt (rows c) k) (sym here) (g .shorter)))
+            (omega (arith, subst (λ (k : ℕ). c .args .extent .width ≤ sizeAt (columns c) k) (sym here) (g .narrower)));
+        cleared = λ here. stands .cleared here ∙ zeros-length rest (now (c .args .work)) long;
+      })
+
+  put-low-band-requires : levels-lts.Need-put-low-band-requires (
+    put-low-band-reads.Asked,
+    put-low-band-reads.Learnt,
     levels-below t,
     levels.Post,
     synthesise-level-reads.Asked,
     synthesise-level-reads.Learnt,
   ) (levels-at t) levels.Post
-  copy-low-band-requires c κs = (c .before .before .pre .1 .0, c .before .before .pre .1 .1)
+  put-low-band-requires c κs = c .before .before .before .pre .1 .0
 
   same-length : levels-lts.Need-same-length (
-    copy-low-band-reads.Asked,
-    copy-low-band-reads.Learnt,
+    put-low-band-reads.Asked,
+    put-low-band-reads.Learnt,
     levels-below t,
     levels.Post,
     synthesise-level-reads.Asked,
     synthesise-level-reads.Learnt,
   ) (levels-at t) levels.Post
-  same-length c = c .before .copy-low-band .kept .0
+  same-length c = c .before .before .put-low-band .kept .0
+
+  same-length-2 : levels-lts.Need-same-length-2 (
+    put-low-band-reads.Asked,
+    put-low-band-reads.Learnt,
+    levels-below t,
+    levels.Post,
+    synthesise-level-reads.Asked,
+    synthesise-level-reads.Learnt,
+  ) (levels-at t) levels.Post
+  same-length-2 c = c .before .before .put-low-band .kept .1 .0
 
   returns : levels-lts.Need-returns (
-    copy-low-band-reads.Asked,
-    copy-low-band-reads.Learnt,
+    put-low-band-reads.Asked,
+    put-low-band-reads.Learnt,
     levels-below t,
     levels.Post,
     synthesise-level-reads.Asked,
     synthesise-level-reads.Learnt,
   ) (levels-at t) levels.Post
-  unfolding firstBadLevel synthesis sizeAt
+  unfolding firstBadLevel synthesis
   returns c =
-      let start = c .before .before .before .before in
-      let none = c .before .before .before .if1 .taken in
-      let whole : start .args .extent .depth - 0 ≡ start .args .extent .depth = omega arith in
-      (rw none refl, λ e. rw (none, whole) (c .before .copy-low-band .ensures))
+      let none = c .before .before .before .before .before .if1 .taken in
+      (rw none refl, λ e. rw none (c .before .before .put-low-band .ensures))
 
   sub-below : levels-lts.Need-sub-below (
-    copy-low-band-reads.Asked,
-    copy-low-band-reads.Learnt,
+    put-low-band-reads.Asked,
+    put-low-band-reads.Learnt,
     levels-below t,
     levels.Post,
     synthesise-level-reads.Asked,
@@ -105,153 +147,188 @@ module _ (t : ℕ) where
   sub-below c = omega arith
 
   synthesise-levels-requires : levels-lts.Need-synthesise-levels-requires (
-    copy-low-band-reads.Asked,
-    copy-low-band-reads.Learnt,
+    put-low-band-reads.Asked,
+    put-low-band-reads.Learnt,
     levels-below t,
     levels.Post,
     synthesise-level-reads.Asked,
     synthesise-level-reads.Learnt,
   ) (levels-at t) levels.Post
   synthesise-levels-requires c κs =
-      let start = c .before .before .before in
-      (omega (arith, start .pre .0), (start .pre .1 .0, start .pre .1 .1, start .pre .1 .2, omega (arith, start .pre .1 .3)))
+      let start = c .before .before .before .before in
+      (omega (arith, start .pre .0), (start .pre .1 .0, (start .pre .1 .1 .0, omega (arith, start .pre .1 .1 .1))))
 
-  same-length-2 : levels-lts.Need-same-length-2 (
-    copy-low-band-reads.Asked,
-    copy-low-band-reads.Learnt,
+  same-length-3 : levels-lts.Need-same-length-3 (
+    put-low-band-reads.Asked,
+    put-low-band-reads.Learnt,
     levels-below t,
     levels.Post,
     synthesise-level-reads.Asked,
     synthesise-level-reads.Learnt,
   ) (levels-at t) levels.Post
-  same-length-2 c = c .before .before .synthesise-levels .kept .0
+  same-length-3 c = c .before .before .before .synthesise-levels .kept .0
+
+  same-length-4 : levels-lts.Need-same-length-4 (
+    put-low-band-reads.Asked,
+    put-low-band-reads.Learnt,
+    levels-below t,
+    levels.Post,
+    synthesise-level-reads.Asked,
+    synthesise-level-reads.Learnt,
+  ) (levels-at t) levels.Post
+  same-length-4 c = c .before .before .before .synthesise-levels .kept .1 .0
 
   returns-2 : levels-lts.Need-returns-2 (
-    copy-low-band-reads.Asked,
-    copy-low-band-reads.Learnt,
+    put-low-band-reads.Asked,
+    put-low-band-reads.Learnt,
     levels-below t,
     levels.Post,
     synthesise-level-reads.Asked,
     synthesise-level-reads.Learnt,
   ) (levels-at t) levels.Post
   returns-2 c =
-      let start = c .before .before .before .before .before .before in
-      let n = start .args .n in
-      let up : suc (n - 1) ≡ n = omega (arith, c .before .before .before .before .before .if1 .left) in
-      let told = c .before .before .synthesise-levels .ensures .0 in
+      let start = c .before .before .before .before .before .before .before .before in
+      let g = start .pre .1 .0 .0 in
+      let up : suc (below start) ≡ start .args .n = omega (arith, c .before .before .before .before .before .before .before .if1 .left) in
+      let told = c .before .before .before .synthesise-levels .ensures .0 in
       let some = c .if2 .taken in (
         told
-            ∙ subst (λ (k : ℕ). first-bad start (n - 1) ≡ first-bad start k) up
-            (bad-below (filterFrom (start .args .filter)) _ _ (start .pre .1 .0 .rows-least) (start .pre .1 .0 .columns-least) (coefficient-picture start) (n - 1) (λ e. some (told ∙ e))),
+            ∙ subst (λ (k : ℕ). first-bad start (below start) ≡ first-bad start k) up
+            (bad-below (filter start) (rows start) (columns start) (g .rows-least) (g .columns-least) (coefficients start) (below start) (λ e. some (told ∙ e))),
         λ e. absurd (some e),
       )
 
   synthesise-level-requires : levels-lts.Need-synthesise-level-requires (
-    copy-low-band-reads.Asked,
-    copy-low-band-reads.Learnt,
+    put-low-band-reads.Asked,
+    put-low-band-reads.Learnt,
     levels-below t,
     levels.Post,
     synthesise-level-reads.Asked,
     synthesise-level-reads.Learnt,
   ) (levels-at t) levels.Post
   synthesise-level-requires c κs =
-      let start = c .before .before .before .before .before .before .before .before in
-      let kept = c .before .before .before .before .synthesise-levels .kept .0 in (
-        subst (Geometry (start .args .extent)) (sym kept) (start .pre .1 .0),
-        start .pre .1 .1 ∙ sym kept,
-        start .pre .1 .2,
-        omega (arith, start .pre .1 .3, c .before .before .before .before .before .before .before .if1 .left),
+      let start = c .before .before .before .before .before .before .before .before .before .before .before in
+      let rest = c .before .before .before .before .before .before .synthesise-levels in (
+        (
+          subst (Geometry (start .args .extent)) (sym (rest .kept .0)) (start .pre .1 .0 .0),
+          start .pre .1 .0 .1 ∙ sym (rest .kept .0),
+          omega (arith, rest .kept .1 .0, start .pre .1 .0 .2),
+        ),
+        (start .pre .1 .1 .0, omega (arith, start .pre .1 .1 .1, c .before .before .before .before .before .before .before .before .before .before .if1 .left)),
       )
 
-  same-length-3 : levels-lts.Need-same-length-3 (
-    copy-low-band-reads.Asked,
-    copy-low-band-reads.Learnt,
+  same-length-5 : levels-lts.Need-same-length-5 (
+    put-low-band-reads.Asked,
+    put-low-band-reads.Learnt,
     levels-below t,
     levels.Post,
     synthesise-level-reads.Asked,
     synthesise-level-reads.Learnt,
   ) (levels-at t) levels.Post
-  same-length-3 c = c .before .before .synthesise-level .kept .0 ∙ c .before .before .before .before .before .before .before .synthesise-levels .kept .0
+  same-length-5 c = c .before .before .before .synthesise-level .kept .0 ∙ c .before .before .before .before .before .before .before .before .before .before .synthesise-levels .kept .0
+
+  same-length-6 : levels-lts.Need-same-length-6 (
+    put-low-band-reads.Asked,
+    put-low-band-reads.Learnt,
+    levels-below t,
+    levels.Post,
+    synthesise-level-reads.Asked,
+    synthesise-level-reads.Learnt,
+  ) (levels-at t) levels.Post
+  same-length-6 c = c .before .before .before .synthesise-level .kept .1 .0 ∙ c .before .before .before .before .before .before .before .before .before .before .synthesise-levels .kept .1 .0
 
   returns-3 : levels-lts.Need-returns-3 (
-    copy-low-band-reads.Asked,
-    copy-low-band-reads.Learnt,
+    put-low-band-reads.Asked,
+    put-low-band-reads.Learnt,
     levels-below t,
     levels.Post,
     synthesise-level-reads.Asked,
     synthesise-level-reads.Learnt,
   ) (levels-at t) levels.Post
   returns-3 c =
-      let start = c .before .before .before .before .before .before .before .before .before .before .before in
-      let n = start .args .n in
-      let g = start .pre .1 .0 in
-      let up : suc (n - 1) ≡ n = omega (arith, c .before .before .before .before .before .before .before .before .before .before .if1 .left) in
-      let rest = c .before .before .before .before .before .before .before .synthesise-levels in
-      let level = c .before .before .synthesise-level in
-      let none = c .before .before .before .before .before .if2 .left in
-      let below : Picture = pictureOf (start .args .extent .«padded_width» * 2 ^ (start .args .extent .depth - (n - 1))) (rest .last .0) in
-      let fits = level-fits (filterFrom (start .args .filter)) _ _ (g .rows-least) (g .columns-least) (coefficient-picture start) (n - 1) below (rest .ensures .1 none) in (
+      let start = c .before .before .before .before .before .before .before .before .before .before .before .before .before .before .before in
+      let g = start .pre .1 .0 .0 in
+      let up : suc (below start) ≡ start .args .n = omega (arith, c .before .before .before .before .before .before .before .before .before .before .before .before .before .before .if1 .left) in
+      let deep : below start < start .args .extent .depth = omega (arith, start .pre .1 .1 .1, c .before .before .before .before .before .before .before .before .before .before .before .before .before .before .if1 .left) in
+      let rest = c .before .before .before .before .before .before .before .before .before .before .synthesise-levels in
+      let level = c .before .before .before .synthesise-level in
+      let none = c .before .before .before .before .before .before .before .if2 .left in
+      let stood = rest .ensures .1 none in
+      let fits =
+      level-fits (filter start) (rows start) (columns start) (g .rows-least) (g .columns-least) (coefficients start) (below start) (workPicture (start .args .extent) (below start) (rest .last .0)) (stood .in-work deep) in (
         subst (λ (k : ℕ). 0 ≡ first-bad start k) up
-            (bad-none (filterFrom (start .args .filter)) _ _ (g .rows-least) (g .columns-least) (coefficient-picture start) (n - 1) (sym (rest .ensures .0) ∙ none)
+            (bad-none (filter start) (rows start) (columns start) (g .rows-least) (g .columns-least) (coefficients start) (below start) (sym (rest .ensures .0) ∙ none)
             (sym fits ∙ sym (level .ensures .0) ∙ c .if3 .taken)),
-        λ e.
-            subst (λ (k : ℕ). Built start (level .last .0) k) up
-            (level-picture (filterFrom (start .args .filter)) _ _ (g .rows-least) (g .columns-least) (coefficient-picture start) (n - 1) below (rest .ensures .1 none)
-            (pictureOf (start .args .extent .«padded_width» * 2 ^ (start .args .extent .depth - suc (n - 1))) (level .last .0)) (level .ensures .1 (c .if3 .taken))),
+        λ e. next-stands start up (rest .last .0) (level .last .0) (rest .last .1 .0) stood (rest .kept .0) (level .last .1 .0) (level .ensures .1 (c .if3 .taken)),
       )
 
-  same-length-4 : levels-lts.Need-same-length-4 (
-    copy-low-band-reads.Asked,
-    copy-low-band-reads.Learnt,
+  same-length-7 : levels-lts.Need-same-length-7 (
+    put-low-band-reads.Asked,
+    put-low-band-reads.Learnt,
     levels-below t,
     levels.Post,
     synthesise-level-reads.Asked,
     synthesise-level-reads.Learnt,
   ) (levels-at t) levels.Post
-  same-length-4 c = c .before .before .synthesise-level .kept .0 ∙ c .before .before .before .before .before .before .before .synthesise-levels .kept .0
+  same-length-7 c = c .before .before .before .synthesise-level .kept .0 ∙ c .before .before .before .before .before .before .before .before .before .before .synthesise-levels .kept .0
+
+  same-length-8 : levels-lts.Need-same-length-8 (
+    put-low-band-reads.Asked,
+    put-low-band-reads.Learnt,
+    levels-below t,
+    levels.Post,
+    synthesise-level-reads.Asked,
+    synthesise-level-reads.Learnt,
+  ) (levels-at t) levels.Post
+  same-length-8 c = c .before .before .before .synthesise-level .kept .1 .0 ∙ c .before .before .before .before .before .before .before .before .before .before .synthesise-levels .kept .1 .0
 
   returns-4 : levels-lts.Need-returns-4 (
-    copy-low-band-reads.Asked,
-    copy-low-band-reads.Learnt,
+    put-low-band-reads.Asked,
+    put-low-band-reads.Learnt,
     levels-below t,
     levels.Post,
     synthesise-level-reads.Asked,
     synthesise-level-reads.Learnt,
   ) (levels-at t) levels.Post
   returns-4 c =
-      let start = c .before .before .before .before .before .before .before .before .before .before .before in
-      let n = start .args .n in
-      let g = start .pre .1 .0 in
-      let up : suc (n - 1) ≡ n = omega (arith, c .before .before .before .before .before .before .before .before .before .before .if1 .left) in
-      let rest = c .before .before .before .before .before .before .before .synthesise-levels in
-      let level = c .before .before .synthesise-level in
-      let none = c .before .before .before .before .before .if2 .left in
-      let below : Picture = pictureOf (start .args .extent .«padded_width» * 2 ^ (start .args .extent .depth - (n - 1))) (rest .last .0) in
-      let fits = level-fits (filterFrom (start .args .filter)) _ _ (g .rows-least) (g .columns-least) (coefficient-picture start) (n - 1) below (rest .ensures .1 none) in (
+      let start = c .before .before .before .before .before .before .before .before .before .before .before .before .before .before .before in
+      let g = start .pre .1 .0 .0 in
+      let up : suc (below start) ≡ start .args .n = omega (arith, c .before .before .before .before .before .before .before .before .before .before .before .before .before .before .if1 .left) in
+      let deep : below start < start .args .extent .depth = omega (arith, start .pre .1 .1 .1, c .before .before .before .before .before .before .before .before .before .before .before .before .before .before .if1 .left) in
+      let rest = c .before .before .before .before .before .before .before .before .before .before .synthesise-levels in
+      let level = c .before .before .before .synthesise-level in
+      let none = c .before .before .before .before .before .before .before .if2 .left in
+      let stood = rest .ensures .1 none in
+      let fits =
+      level-fits (filter start) (rows start) (columns start) (g .rows-least) (g .columns-least) (coefficients start) (below start) (workPicture (start .args .extent) (below start) (rest .last .0)) (stood .in-work deep) in (
         subst (λ (k : ℕ). k ≡ first-bad start k) up
-            (bad-here (filterFrom (start .args .filter)) _ _ (g .rows-least) (g .columns-least) (coefficient-picture start) (n - 1) (sym (rest .ensures .0) ∙ none)
+            (bad-here (filter start) (rows start) (columns start) (g .rows-least) (g .columns-least) (coefficients start) (below start) (sym (rest .ensures .0) ∙ none)
             (sym fits ∙ sym (level .ensures .0) ∙ c .if3 .left)),
-        λ e. absurd (c .before .before .before .before .before .before .before .before .before .before .if1 .left e),
+        λ e. absurd (c .before .before .before .before .before .before .before .before .before .before .before .before .before .before .if1 .left e),
       )
 
 pub +synthesise-levels-spec : {M : Type 1} → statement M
 +synthesise-levels-spec = close μ-levels λ t. levels-lts.spec (
-  copy-low-band-reads.Asked,
-  copy-low-band-reads.Learnt,
+  put-low-band-reads.Asked,
+  put-low-band-reads.Learnt,
   levels-below t,
   levels.Post,
   synthesise-level-reads.Asked,
   synthesise-level-reads.Learnt,
 ) (levels-at t) levels.Post
-    (copy-low-band-requires t)
+    (put-low-band-requires t)
     (same-length t)
+    (same-length-2 t)
     (returns t)
     (sub-below t)
     (synthesise-levels-requires t)
-    (same-length-2 t)
+    (same-length-3 t)
+    (same-length-4 t)
     (returns-2 t)
     (synthesise-level-requires t)
-    (same-length-3 t)
+    (same-length-5 t)
+    (same-length-6 t)
     (returns-3 t)
-    (same-length-4 t)
+    (same-length-7 t)
+    (same-length-8 t)
     (returns-4 t)
