@@ -20,7 +20,7 @@ use Rattle.base.proofs.Ranges.{below-fits32, fits32-below}
 use Rattle.lines.specs.Buffers.{Within}
 use Rattle.lines.specs.Sums.{sumBelow, tapAt, changed}
 use Rattle.lifting.specs.Lifting.{Step, changesEven, adds, rounding}
-use Rattle.lifting.specs.Filters.{filterOf, filter0, filter1, filter2, haarSteps, filter3, filter4, filter5, filter6}
+use Rattle.lifting.specs.Filters.{filterOf, deslauriersDubuc97, leGall53, deslauriersDubuc137, haarSteps, haar, haarWithShift, fidelity, daubechies97}
 use Rattle.lifting.specs.Reach.{sumMost, newMost, staysSmall, targetAfter, reachOf, sourceReach, targetReach, reachAfter}
 use Rattle.lifting.specs.Table.{stepOf, largest, gainOf, Sane}
 use Rattle.lifting.specs.declared.filters.LiftingStep.{LiftingStep}
@@ -251,7 +251,7 @@ pass-same (r ∷ rs) reach sane =
 pub pass-small :
     (wavelet : ℕ) (rs : List LiftingStep) → wavelet ≤ 6 → AllSane rs → map stepOf rs ≡ filterOf wavelet .steps
     → passSmall rs (reachPair (2 ^ 16 + 1) (2 ^ 16 + 1)) ≡ true
-unfolding filterOf filter0 filter1 filter2 haarSteps filter3 filter4 filter5 filter6 changesEven adds largest gainOf sumMost newMost staysSmall targetAfter reachOf reachAfter passSmall
+unfolding filterOf deslauriersDubuc97 leGall53 deslauriersDubuc137 haarSteps haar haarWithShift fidelity daubechies97 changesEven adds largest gainOf sumMost newMost staysSmall targetAfter reachOf reachAfter passSmall
 pass-small wavelet rs h sane same =
     pass-same rs _ sane
     ∙ rw same

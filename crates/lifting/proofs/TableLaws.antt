@@ -21,7 +21,7 @@ use Rattle.base.proofs.Everys.{and-left, and-right, all-at}
 use Rattle.base.proofs.Magnitudes.{mag-size}
 use Rattle.base.proofs.Ranges.{back}
 use Rattle.lifting.specs.Lifting.{Step, rounding, changes, changesEven}
-use Rattle.lifting.specs.Filters.{filterOf, filter0, filter1, filter2, haarSteps, filter3, filter4, filter5, filter6}
+use Rattle.lifting.specs.Filters.{filterOf, deslauriersDubuc97, leGall53, deslauriersDubuc137, haarSteps, haar, haarWithShift, fidelity, daubechies97}
 use Rattle.lifting.specs.Table.{stepOf, gainOf, Sane, IsStep, StepsOf, filterFrom, changedBySome, WellFormed}
 use Rattle.lifting.specs.declared.filters.LiftingFilter.{LiftingFilter}
 use Rattle.lifting.specs.declared.filters.LiftingStep.{LiftingStep}
@@ -51,7 +51,7 @@ seven (suc (suc (suc n))) h p0 p1 p2 p3 p4 p5 p6 =
 
 -- a filter has one step at least, and four at most
 pub steps-few : (wavelet : ℕ) → wavelet ≤ 6 → (1 ≤ length (filterOf wavelet .steps)) × (length (filterOf wavelet .steps) ≤ 4)
-unfolding filterOf filter0 filter1 filter2 haarSteps filter3 filter4 filter5 filter6
+unfolding filterOf deslauriersDubuc97 leGall53 deslauriersDubuc137 haarSteps haar haarWithShift fidelity daubechies97
 steps-few wavelet known =
     seven wavelet known
     (λ e. rw e (omega arith, omega arith)) (λ e. rw e (omega arith, omega arith)) (λ e. rw e (omega arith, omega arith)) (λ e. rw e (omega arith, omega arith))
@@ -59,7 +59,7 @@ steps-few wavelet known =
 
 -- each filter has a step for the even places and one for the odd ones
 all-changed : (wavelet x : ℕ) → wavelet ≤ 6 → changedBySome (filterOf wavelet .steps) x ≡ true
-unfolding changedBySome changes changesEven filterOf filter0 filter1 filter2 haarSteps filter3 filter4 filter5 filter6
+unfolding changedBySome changes changesEven filterOf deslauriersDubuc97 leGall53 deslauriersDubuc137 haarSteps haar haarWithShift fidelity daubechies97
 all-changed wavelet x known =
     two (x % 2) (omega arith)
     (λ even. seven wavelet known (λ e. rw (e, even)) (λ e. rw (e, even)) (λ e. rw (e, even)) (λ e. rw (e, even)) (λ e. rw (e, even)) (λ e. rw (e, even)) (λ e. rw (e, even)))

@@ -15,9 +15,9 @@ pub record Filter : Type 0 where
 abbrev step : StepType → ℤ → List ℤ → ℕ → Step
 step t d taps s = record { type = t; first = d; taps = taps; scale = s }
 
--- "2;0;1,1;2, then 3;−1;−1,9,9,−1;4", shift 1
-unfoldable pub filter0 : Filter
-filter0 =
+-- Index 0, Deslauriers-Dubuc (9,7): "2;0;1,1;2, then 3;−1;−1,9,9,−1;4", shift 1
+unfoldable pub deslauriersDubuc97 : Filter
+deslauriersDubuc97 =
     record {
       steps =
           step type2 (pos 0) (pos 1 ∷ pos 1 ∷ []) 2
@@ -26,17 +26,17 @@ filter0 =
       shift = true;
     }
 
--- "2;0;1,1;2, then 3;0;1,1;1", shift 1
-unfoldable pub filter1 : Filter
-filter1 =
+-- Index 1, LeGall (5,3): "2;0;1,1;2, then 3;0;1,1;1", shift 1
+unfoldable pub leGall53 : Filter
+leGall53 =
     record {
       steps = step type2 (pos 0) (pos 1 ∷ pos 1 ∷ []) 2 ∷ step type3 (pos 0) (pos 1 ∷ pos 1 ∷ []) 1 ∷ [];
       shift = true;
     }
 
--- "2;−1;−1,9,9,−1;5, then 3;−1;−1,9,9,−1;4", shift 1
-unfoldable pub filter2 : Filter
-filter2 =
+-- Index 2, Deslauriers-Dubuc (13,7): "2;−1;−1,9,9,−1;5, then 3;−1;−1,9,9,−1;4", shift 1
+unfoldable pub deslauriersDubuc137 : Filter
+deslauriersDubuc137 =
     record {
       steps =
           step type2 (negsuc 0) (negsuc 0 ∷ pos 9 ∷ pos 9 ∷ negsuc 0 ∷ []) 5
@@ -45,21 +45,21 @@ filter2 =
       shift = true;
     }
 
--- "2;1;1;1, then 3;0;1;0": the steps of indices 3 and 4
+-- Haar, the steps of indices 3 and 4: "2;1;1;1, then 3;0;1;0"
 unfoldable pub haarSteps : List Step
 haarSteps = step type2 (pos 1) (pos 1 ∷ []) 1 ∷ step type3 (pos 0) (pos 1 ∷ []) 0 ∷ []
 
--- shift 0
-unfoldable pub filter3 : Filter
-filter3 = record { steps = haarSteps; shift = false }
+-- Index 3, Haar without a shift: shift 0
+unfoldable pub haar : Filter
+haar = record { steps = haarSteps; shift = false }
 
--- "as 3", shift 1
-unfoldable pub filter4 : Filter
-filter4 = record { steps = haarSteps; shift = true }
+-- Index 4, Haar with a shift: "as 3", shift 1
+unfoldable pub haarWithShift : Filter
+haarWithShift = record { steps = haarSteps; shift = true }
 
--- "3;−3;−2,10,−25,81,81,−25,10,−2;8, then 2;−3;−8,21,−46,161,161,−46,21,−8;8", shift 0
-unfoldable pub filter5 : Filter
-filter5 =
+-- Index 5, Fidelity: "3;−3;−2,10,−25,81,81,−25,10,−2;8, then 2;−3;−8,21,−46,161,161,−46,21,−8;8", shift 0
+unfoldable pub fidelity : Filter
+fidelity =
     record {
       steps =
           step type3 (negsuc 2) (negsuc 1 ∷ pos 10 ∷ negsuc 24 ∷ pos 81 ∷ pos 81 ∷ negsuc 24 ∷ pos 10 ∷ negsuc 1 ∷ []) 8
@@ -68,9 +68,9 @@ filter5 =
       shift = false;
     }
 
--- "2;0;1817,1817;12, then 4;0;3616,3616;12, then 1;0;217,217;12, then 3;0;6497,6497;12", shift 1
-unfoldable pub filter6 : Filter
-filter6 =
+-- Index 6, Daubechies (9,7): "2;0;1817,1817;12, then 4;0;3616,3616;12, then 1;0;217,217;12, then 3;0;6497,6497;12", shift 1
+unfoldable pub daubechies97 : Filter
+daubechies97 =
     record {
       steps =
           step type2 (pos 0) (pos 1817 ∷ pos 1817 ∷ []) 12
@@ -83,4 +83,4 @@ filter6 =
 
 -- "The table holds seven filters": the filter of a wavelet index. An index above 6 is refused before it is used.
 unfoldable pub filterOf : ℕ → Filter
-filterOf wavelet = getD (filter0 ∷ filter1 ∷ filter2 ∷ filter3 ∷ filter4 ∷ filter5 ∷ filter6 ∷ []) wavelet filter0
+filterOf wavelet = getD (deslauriersDubuc97 ∷ leGall53 ∷ deslauriersDubuc137 ∷ haar ∷ haarWithShift ∷ fidelity ∷ daubechies97 ∷ []) wavelet deslauriersDubuc97

@@ -5,7 +5,9 @@ use mathlib.Core.List.{List}
 use lib.Dec.{ltb}
 use lib.IntN.{ℤ}
 use Rattle.lines.specs.Buffers.{Within}
-use Rattle.lifting.specs.Layout.{targetRow}
+use Rattle.lifting.specs.Layout.{targetRow, sourceRow, framePicture}
+use Rattle.lifting.specs.Lifting.{Line, lift}
+use Rattle.lifting.specs.Table.{stepOf}
 use Rattle.lifting.specs.declared.columns.Frame.{Frame}
 use Rattle.lifting.specs.declared.filters.LiftingStep.{LiftingStep}
 use Rattle.lifting.specs.declared.reach.Reach.{Reach}
@@ -41,6 +43,19 @@ reachAfter r reach =
     cond (r .even)
     (record { even = targetAfter r (reach .odd) (reach .even); odd = reach .odd })
     (record { even = reach .even; odd = targetAfter r (reach .even) (reach .odd) })
+
+-- The row of pair k that a step changes: where it starts in a frame, and the numbers that the step makes of it.
+abbrev pub rowStart : Frame → LiftingStep → ℕ → ℕ
+rowStart f r k = targetRow (r .even) k * f .stride
+
+abbrev pub newRow : Frame → LiftingStep → ℕ → List ℤ → Line
+newRow f r k plane c = lift (stepOf r) (2 * f .«band_rows») (λ row. framePicture f plane row c) (targetRow (r .even) k)
+
+-- Every row that its taps read, and it itself, keep to a reach.
+abbrev pub RowReach : Frame → LiftingStep → ℕ → Reach → List ℤ → Type 0
+RowReach f r k reach plane =
+    ((s : ℕ) → Within plane (sourceRow (r .even) (f .«band_rows») s * f .stride) (2 * f .«band_columns») (sourceReach r reach))
+    × Within plane (rowStart f r k) (2 * f .«band_columns») (targetReach r reach)
 
 -- The even and the odd rows of a frame's picture keep to a reach.
 abbrev pub ColumnsReach : Frame → Reach → List ℤ → Type 0

@@ -4,9 +4,9 @@ use mathlib.Core.Path.{_≡_}
 use Prim.Native.Nat.{ℕ, _+_, _*_, _^_, _≤_, _<_, max}
 use mathlib.Core.Bool.{Bool, true, false, cond, _||_}
 use mathlib.Core.List.{List, [], _∷_, map}
-use lib.IntN.{ℤ, pos, _+ℤ_, _-ℤ_, natAbs}
+use lib.IntN.{ℤ, pos, _+ℤ_, _-ℤ_, _*ℤ_, natAbs}
 use lib.ListN.{length, getD, take}
-use Rattle.lines.specs.Buffers.{Symmetric}
+use Rattle.lines.specs.Buffers.{Symmetric, heldEntry}
 use Rattle.lines.specs.Sums.{sumBelow, tapAt, changed}
 use Rattle.lifting.specs.Lifting.{Step, rounding, StepType, type1, type2, type3, type4, changes}
 use Rattle.lifting.specs.Filters.{Filter, filterOf}
@@ -56,6 +56,12 @@ pub record Sane (r : LiftingStep) : Type 0 where
 abbrev pub lineNew : LiftingStep → List ℕ → List ℤ → ℕ → ℕ → ℤ
 lineNew r places plane place x =
     changed (r .adds) (r .scale) (getD plane (place + x) (pos 0)) (rounding (r .scale) +ℤ sumBelow (tapAt (r .taps) places plane x) (r .count))
+
+-- What a step makes of number k of the half behind one base of the line buffer, its taps reading the half behind another, whose ends are repeated.
+abbrev pub halfNew : LiftingStep → ℕ → ℕ → ℕ → List ℤ → ℕ → ℤ
+halfNew r half target source halves k =
+    changed (r .adds) (r .scale) (getD halves (target + 4 + k) (pos 0))
+    (rounding (r .scale) +ℤ sumBelow (λ t. getD (r .taps) t (pos 0) *ℤ getD halves (source + heldEntry half (r .lead + t + k)) (pos 0)) (r .count))
 
 -- The filter that a record of the code stands for: the steps in use, and the shift.
 abbrev pub stepsInUse : ℕ → List LiftingStep → List Step

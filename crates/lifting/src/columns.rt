@@ -8,12 +8,10 @@ ghost use Rattle.base.specs.Every.{allBelow};
 ghost use Rattle.base.specs.Fill.{fill};
 ghost use Rattle.base.specs.Range.{fits32};
 ghost use Rattle.lines.specs.Buffers.{Within};
-ghost use Rattle.lifting.specs.Lifting.{lift};
-ghost use Rattle.lifting.specs.Passes.{columns, run, runAll, newFit, allNewFit};
-ghost use Rattle.lifting.specs.Planes.{pictureOf};
+ghost use Rattle.lifting.specs.Passes.{columns};
 ghost use Rattle.lifting.specs.Table.{stepOf, Sane, filterFrom, WellFormed};
-ghost use Rattle.lifting.specs.Layout.{Agree, Placed, targetRow, sourceRow};
-ghost use Rattle.lifting.specs.Reach.{sourceReach, targetReach, reachAfter, ColumnsReach};
+ghost use Rattle.lifting.specs.Layout.{Placed, targetRow, sourceRow, framePicture, AgreeOn, runOn, numbersFit, passOn, passNumbersFit};
+ghost use Rattle.lifting.specs.Reach.{reachAfter, ColumnsReach, rowStart, newRow, RowReach};
 use crate::filters::LiftingFilter;
 use crate::filters::LiftingStep;
 use crate::reach::Reach;
@@ -32,8 +30,11 @@ pub struct Frame {
 pub fn filter_columns(work: &mut [i32], frame: Frame, filter: LiftingFilter, most: u32) -> bool
     requires { ⌜ Placed frame (now work) × WellFormed filter ⌝ }
     requires { ⌜ ((row : ℕ) → row < 2 * frame .«band_rows» → Within (now work) (row * frame .stride) (2 * frame .«band_columns») (suc most)) ⌝ }
-    ensures told { λ r. ⌜ r ≡ allNewFit (2 * frame .«band_rows») (2 * frame .«band_columns») (map columns (filterFrom filter .steps)) (pictureOf (frame .stride) (now (work .entry))) ⌝ }
-    ensures done { λ r. ⌜ (r ≡ true → Agree (2 * frame .«band_rows») (2 * frame .«band_columns») (pictureOf (frame .stride) (now (work .exit))) (runAll (2 * frame .«band_rows») (2 * frame .«band_columns») (map columns (filterFrom filter .steps)) (pictureOf (frame .stride) (now (work .entry))))) ⌝ }
+    ensures told { λ r. ⌜ r ≡ numbersFit frame (map columns (filterFrom filter .steps)) (framePicture frame (now (work .entry))) ⌝ }
+    ensures done { λ r. ⌜
+        (r ≡ true → AgreeOn frame (framePicture frame (now (work .exit)))
+        (runOn frame (map columns (filterFrom filter .steps)) (framePicture frame (now (work .entry)))))
+        ⌝ }
 {
     let count = filter.count;
     let steps = filter.steps;
@@ -57,8 +58,10 @@ pub fn filter_columns(work: &mut [i32], frame: Frame, filter: LiftingFilter, mos
 // Runs one step on every column of the picture, whose numbers keep to a reach.
 fn lift_columns(work: &mut [i32], frame: Frame, step: LiftingStep, reach: Reach) -> bool
     requires { ⌜ Placed frame (now work) × Sane step × ColumnsReach frame reach (now work) ⌝ }
-    ensures told { λ r. ⌜ r ≡ newFit (2 * frame .«band_rows») (2 * frame .«band_columns») (columns (stepOf step)) (run (2 * frame .«band_rows») (2 * frame .«band_columns») (columns (stepOf step)) (pictureOf (frame .stride) (now (work .entry)))) ⌝ }
-    ensures done { λ r. ⌜ (r ≡ true → Agree (2 * frame .«band_rows») (2 * frame .«band_columns») (pictureOf (frame .stride) (now (work .exit))) (run (2 * frame .«band_rows») (2 * frame .«band_columns») (columns (stepOf step)) (pictureOf (frame .stride) (now (work .entry))))) ⌝ }
+    ensures told { λ r. ⌜ r ≡ passNumbersFit frame (columns (stepOf step)) ((framePicture frame (now (work .entry)))) ⌝ }
+    ensures done { λ r. ⌜
+        (r ≡ true → AgreeOn frame (framePicture frame (now (work .exit))) (passOn frame (columns (stepOf step)) (framePicture frame (now (work .entry)))))
+        ⌝ }
     ensures bounded { λ r. ⌜ (r ≡ true → ColumnsReach frame (reachAfter step reach) (now (work .exit))) ⌝ }
 {
     let pairs = frame.band_rows;
@@ -75,9 +78,11 @@ fn lift_columns(work: &mut [i32], frame: Frame, step: LiftingStep, reach: Reach)
 // Runs one step on one element of every column: the row of pair k that the step changes.
 fn lift_row(work: &mut [i32], frame: Frame, k: usize, step: LiftingStep, reach: Reach) -> bool
     requires { ⌜ Placed frame (now work) × Sane step × (k < frame .«band_rows») × (reach .even ≤ 2 ^ 32) × (reach .odd ≤ 2 ^ 32) ⌝ }
-    requires { ⌜ ((s : ℕ) → Within (now work) (sourceRow (step .even) (frame .«band_rows») s * frame .stride) (2 * frame .«band_columns») (sourceReach step reach)) × Within (now work) (targetRow (step .even) k * frame .stride) (2 * frame .«band_columns») (targetReach step reach) ⌝ }
-    ensures told { λ r. ⌜ r ≡ allBelow (2 * frame .«band_columns») (λ c. fits32 (lift (stepOf step) (2 * frame .«band_rows») (λ r. pictureOf (frame .stride) (now (work .entry)) r c) (targetRow (step .even) k))) ⌝ }
-    ensures done { λ r. ⌜ (r ≡ true → now (work .exit) ≡ fill (now (work .entry)) (targetRow (step .even) k * frame .stride) (2 * frame .«band_columns») (λ c. lift (stepOf step) (2 * frame .«band_rows») (λ r. pictureOf (frame .stride) (now (work .entry)) r c) (targetRow (step .even) k))) ⌝ }
+    requires { ⌜ RowReach frame step k reach (now work) ⌝ }
+    ensures told { λ r. ⌜ r ≡ allBelow (2 * frame .«band_columns») (λ c. fits32 (newRow frame step k (now (work .entry)) c)) ⌝ }
+    ensures done { λ r. ⌜
+        (r ≡ true → now (work .exit) ≡ fill (now (work .entry)) (rowStart frame step k) (2 * frame .«band_columns») (newRow frame step k (now (work .entry))))
+        ⌝ }
 {
     let width = 2 * frame.band_columns;
     let places = row_places(frame, step.even, k + step.lead);

@@ -5,18 +5,17 @@ ghost use mathlib.Core.Bool.{true};
 ghost use mathlib.Core.Logic.{_≢_};
 ghost use mathlib.Core.List.{map};
 ghost use Prim.Native.Nat.{ℕ, _+_, _*_, _^_, _≤_, _<_};
-ghost use lib.IntN.{pos, _+ℤ_, _*ℤ_};
+ghost use lib.IntN.{pos};
 ghost use lib.ListN.{length, getD};
 ghost use Rattle.base.specs.Every.{allBelow};
 ghost use Rattle.base.specs.Fill.{fill};
 ghost use Rattle.base.specs.Range.{fits32};
-ghost use Rattle.lines.specs.Buffers.{Within, heldEntry, woven, shifted};
-ghost use Rattle.lines.specs.Sums.{sumBelow, changed};
-ghost use Rattle.lifting.specs.Lifting.{lift, rounding};
-ghost use Rattle.lifting.specs.Passes.{rows, run, runAll, newFit, allNewFit};
+ghost use Rattle.lines.specs.Buffers.{Within, woven};
+ghost use Rattle.lifting.specs.Lifting.{lift};
+ghost use Rattle.lifting.specs.Passes.{rows, run, newFit};
 ghost use Rattle.lifting.specs.Planes.{pictureOf};
-ghost use Rattle.lifting.specs.Table.{stepOf, Sane, filterFrom, WellFormed};
-ghost use Rattle.lifting.specs.Layout.{Agree, Placed, halfPlace, halvesOf};
+ghost use Rattle.lifting.specs.Table.{stepOf, Sane, filterFrom, WellFormed, halfNew};
+ghost use Rattle.lifting.specs.Layout.{Agree, Placed, framePicture, halvesPicture, AgreeOn, numbersFit, rowsPicture, AllFitOn, ZerosOn, halfLine, rowAfter, rowShifted, rowNumbersFit};
 ghost use Rattle.lifting.specs.Reach.{sourceReach, targetReach, reachAfter, HalvesReach};
 use crate::columns::Frame;
 use crate::filters::LiftingFilter;
@@ -43,10 +42,10 @@ pub fn finish_rows(
 ) -> bool
     requires { ⌜ Placed frame (now work) × WellFormed filter ⌝ }
     requires { ⌜ (width ≤ 2 * frame .«band_columns») × (height ≤ 2 * frame .«band_rows») × (height * width ≤ length (now samples)) ⌝ }
-    ensures told { λ r. ⌜ r ≡ allNewFit (2 * frame .«band_rows») (2 * frame .«band_columns») (map rows (filterFrom filter .steps)) (halvesOf (frame .«band_columns») (frame .stride) (now (work .entry))) ⌝ }
-    ensures done { λ r. ⌜ (r ≡ true → Agree height width (pictureOf width (now (samples .exit))) (λ row x. shifted (filter .shift) (runAll (2 * frame .«band_rows») (2 * frame .«band_columns») (map rows (filterFrom filter .steps)) (halvesOf (frame .«band_columns») (frame .stride) (now (work .entry))) row x))) ⌝ }
-    ensures fit { λ r. ⌜ (r ≡ true → (row x : ℕ) → row < 2 * frame .«band_rows» → x < 2 * frame .«band_columns» → fits32 (shifted (filter .shift) (runAll (2 * frame .«band_rows») (2 * frame .«band_columns») (map rows (filterFrom filter .steps)) (halvesOf (frame .«band_columns») (frame .stride) (now (work .entry))) row x)) ≡ true) ⌝ }
-    ensures cleared { λ r. ⌜ (r ≡ true → (row x : ℕ) → row < 2 * frame .«band_rows» → x < 2 * frame .«band_columns» → getD (now (work .exit)) (row * frame .stride + x) (pos 0) ≡ pos 0) ⌝ }
+    ensures told { λ r. ⌜ r ≡ numbersFit frame (map rows (filterFrom filter .steps)) (halvesPicture frame (now (work .entry))) ⌝ }
+    ensures done { λ r. ⌜ (r ≡ true → Agree height width (pictureOf width (now (samples .exit))) (rowsPicture frame (filterFrom filter) (now (work .entry)))) ⌝ }
+    ensures fit { λ r. ⌜ (r ≡ true → AllFitOn frame (rowsPicture frame (filterFrom filter) (now (work .entry)))) ⌝ }
+    ensures cleared { λ r. ⌜ (r ≡ true → ZerosOn frame (now (work .exit))) ⌝ }
 {
     let half = frame.band_columns;
     let stride = frame.stride;
@@ -84,8 +83,8 @@ fn finish_row(
 ) -> bool
     requires { ⌜ (1 ≤ half) × (half ≤ 2048) × (place + 2 * half ≤ length (now work)) × WellFormed filter ⌝ }
     requires { ⌜ (count ≤ 2 * half) × (to + count ≤ length (now samples)) ⌝ }
-    ensures told { λ r. ⌜ r ≡ allNewFit 1 (2 * half) (map rows (filterFrom filter .steps)) (λ row x. getD (now (work .entry)) (place + halfPlace half x) (pos 0)) ⌝ }
-    ensures done { λ r. ⌜ (r ≡ true → now (samples .exit) ≡ fill (now (samples .entry)) to count (λ x. shifted (filter .shift) (runAll 1 (2 * half) (map rows (filterFrom filter .steps)) (λ row k. getD (now (work .entry)) (place + halfPlace half k) (pos 0)) 0 x))) ⌝ }
+    ensures told { λ r. ⌜ r ≡ rowNumbersFit half (filterFrom filter) (halfLine half place (now (work .entry))) ⌝ }
+    ensures done { λ r. ⌜ (r ≡ true → now (samples .exit) ≡ fill (now (samples .entry)) to count (rowShifted half (filterFrom filter) (halfLine half place (now (work .entry))))) ⌝ }
     ensures cleared { λ r. ⌜ (r ≡ true → now (work .exit) ≡ fill (now (work .entry)) place (2 * half) (λ x. pos 0)) ⌝ }
 {
     if !filter_row_halves(work, place, halves, half, filter) {
@@ -116,9 +115,9 @@ pub fn filter_rows(
     filter: LiftingFilter,
 ) -> bool
     requires { ⌜ Placed frame (now work) × WellFormed filter ⌝ }
-    ensures told { λ r. ⌜ r ≡ allNewFit (2 * frame .«band_rows») (2 * frame .«band_columns») (map rows (filterFrom filter .steps)) (halvesOf (frame .«band_columns») (frame .stride) (now (work .entry))) ⌝ }
-    ensures done { λ r. ⌜ (r ≡ true → Agree (2 * frame .«band_rows») (2 * frame .«band_columns») (pictureOf (frame .stride) (now (work .exit))) (λ row x. shifted (filter .shift) (runAll (2 * frame .«band_rows») (2 * frame .«band_columns») (map rows (filterFrom filter .steps)) (halvesOf (frame .«band_columns») (frame .stride) (now (work .entry))) row x))) ⌝ }
-    ensures fit { λ r. ⌜ (r ≡ true → (row x : ℕ) → row < 2 * frame .«band_rows» → x < 2 * frame .«band_columns» → fits32 (shifted (filter .shift) (runAll (2 * frame .«band_rows») (2 * frame .«band_columns») (map rows (filterFrom filter .steps)) (halvesOf (frame .«band_columns») (frame .stride) (now (work .entry))) row x)) ≡ true) ⌝ }
+    ensures told { λ r. ⌜ r ≡ numbersFit frame (map rows (filterFrom filter .steps)) (halvesPicture frame (now (work .entry))) ⌝ }
+    ensures done { λ r. ⌜ (r ≡ true → AgreeOn frame (framePicture frame (now (work .exit))) (rowsPicture frame (filterFrom filter) (now (work .entry)))) ⌝ }
+    ensures fit { λ r. ⌜ (r ≡ true → AllFitOn frame (rowsPicture frame (filterFrom filter) (now (work .entry)))) ⌝ }
 {
     let half = frame.band_columns;
     let stride = frame.stride;
@@ -142,8 +141,8 @@ fn filter_row(
     filter: LiftingFilter,
 ) -> bool
     requires { ⌜ (1 ≤ half) × (half ≤ 2048) × (place + 2 * half ≤ length (now work)) × WellFormed filter ⌝ }
-    ensures told { λ r. ⌜ r ≡ allNewFit 1 (2 * half) (map rows (filterFrom filter .steps)) (λ row x. getD (now (work .entry)) (place + halfPlace half x) (pos 0)) ⌝ }
-    ensures done { λ r. ⌜ (r ≡ true → now (work .exit) ≡ fill (now (work .entry)) place (2 * half) (λ x. shifted (filter .shift) (runAll 1 (2 * half) (map rows (filterFrom filter .steps)) (λ row k. getD (now (work .entry)) (place + halfPlace half k) (pos 0)) 0 x))) ⌝ }
+    ensures told { λ r. ⌜ r ≡ rowNumbersFit half (filterFrom filter) (halfLine half place (now (work .entry))) ⌝ }
+    ensures done { λ r. ⌜ (r ≡ true → now (work .exit) ≡ fill (now (work .entry)) place (2 * half) (rowShifted half (filterFrom filter) (halfLine half place (now (work .entry))))) ⌝ }
 {
     if !filter_row_halves(work, place, halves, half, filter) {
         return false;
@@ -161,8 +160,8 @@ fn filter_row_halves(
     filter: LiftingFilter,
 ) -> bool
     requires { ⌜ (1 ≤ half) × (half ≤ 2048) × (place + 2 * half ≤ length (now work)) × WellFormed filter ⌝ }
-    ensures told { λ r. ⌜ r ≡ allNewFit 1 (2 * half) (map rows (filterFrom filter .steps)) (λ row x. getD (now (work .entry)) (place + halfPlace half x) (pos 0)) ⌝ }
-    ensures done { λ r. ⌜ (r ≡ true → (x : ℕ) → x < 2 * half → woven (now (halves .exit)) x ≡ runAll 1 (2 * half) (map rows (filterFrom filter .steps)) (λ row k. getD (now (work .entry)) (place + halfPlace half k) (pos 0)) 0 x) ⌝ }
+    ensures told { λ r. ⌜ r ≡ rowNumbersFit half (filterFrom filter) (halfLine half place (now (work .entry))) ⌝ }
+    ensures done { λ r. ⌜ (r ≡ true → (x : ℕ) → x < 2 * half → woven (now (halves .exit)) x ≡ rowAfter half (filterFrom filter) (halfLine half place (now (work .entry))) x) ⌝ }
 {
     let low_most = copy_measured(halves, 4, work, place, half) as u64;
     let high_most = copy_measured(halves, 2060, work, place + half, half) as u64;
@@ -177,8 +176,8 @@ fn filter_row_halves(
 fn filter_halves(halves: &mut [i32; 4112], half: usize, filter: LiftingFilter, first: Reach) -> bool
     requires { ⌜ (1 ≤ half) × (half ≤ 2048) × WellFormed filter ⌝ }
     requires { ⌜ HalvesReach half first (now halves) ⌝ }
-    ensures told { λ r. ⌜ r ≡ allNewFit 1 (2 * half) (map rows (filterFrom filter .steps)) (λ row. woven (now (halves .entry))) ⌝ }
-    ensures done { λ r. ⌜ (r ≡ true → (x : ℕ) → x < 2 * half → woven (now (halves .exit)) x ≡ runAll 1 (2 * half) (map rows (filterFrom filter .steps)) (λ row. woven (now (halves .entry))) 0 x) ⌝ }
+    ensures told { λ r. ⌜ r ≡ rowNumbersFit half (filterFrom filter) (woven (now (halves .entry))) ⌝ }
+    ensures done { λ r. ⌜ (r ≡ true → (x : ℕ) → x < 2 * half → woven (now (halves .exit)) x ≡ rowAfter half (filterFrom filter) (woven (now (halves .entry))) x) ⌝ }
 {
     let count = filter.count;
     let steps = filter.steps;
@@ -222,8 +221,8 @@ fn lift_half(
     requires { ⌜ (1 ≤ half) × (half ≤ 2048) × Sane step ⌝ }
     requires { ⌜ (target ≤ 2056) × (source ≤ 2056) × ((i j : ℕ) → i < half + 8 → j < half + 8 → target + i ≢ source + j) ⌝ }
     requires { ⌜ (reach .even ≤ 2 ^ 32) × (reach .odd ≤ 2 ^ 32) × Within (now halves) (target + 4) half (targetReach step reach) × Within (now halves) (source + 4) half (sourceReach step reach) ⌝ }
-    ensures told { λ r. ⌜ r ≡ allBelow half (λ k. fits32 (changed (step .adds) (step .scale) (getD (now (halves .entry)) (target + 4 + k) (pos 0)) (rounding (step .scale) +ℤ sumBelow (λ t. getD (step .taps) t (pos 0) *ℤ getD (now (halves .entry)) (source + heldEntry half (step .lead + t + k)) (pos 0)) (step .count)))) ⌝ }
-    ensures done { λ r. ⌜ (r ≡ true → (k : ℕ) → k < half → getD (now (halves .exit)) (target + 4 + k) (pos 0) ≡ changed (step .adds) (step .scale) (getD (now (halves .entry)) (target + 4 + k) (pos 0)) (rounding (step .scale) +ℤ sumBelow (λ t. getD (step .taps) t (pos 0) *ℤ getD (now (halves .entry)) (source + heldEntry half (step .lead + t + k)) (pos 0)) (step .count))) ⌝ }
+    ensures told { λ r. ⌜ r ≡ allBelow half (λ k. fits32 (halfNew step half target source (now (halves .entry)) k)) ⌝ }
+    ensures done { λ r. ⌜ (r ≡ true → (k : ℕ) → k < half → getD (now (halves .exit)) (target + 4 + k) (pos 0) ≡ halfNew step half target source (now (halves .entry)) k) ⌝ }
     ensures kept { λ r. ⌜ (r ≡ true → (k : ℕ) → k < half → getD (now (halves .exit)) (source + 4 + k) (pos 0) ≡ getD (now (halves .entry)) (source + 4 + k) (pos 0)) ⌝ }
     ensures bounded { λ r. ⌜ (r ≡ true → Within (now (halves .exit)) (target + 4) half (targetReach step (reachAfter step reach))) ⌝ }
 {

@@ -6,15 +6,16 @@
 use mathlib.Core.Path.{_≡_, sym, ap, _∙_}
 use mathlib.Core.Bool.{true}
 use mathlib.Core.List.{List}
-use Prim.Native.Nat.{_*_}
-use lib.IntN.{ℤ}
-use lib.ListN.{length}
+use Prim.Native.Nat.{ℕ, _*_, _<_}
+use lib.IntN.{ℤ, pos}
+use lib.ListN.{length, getD}
 use Rattle.base.specs.Fill.{zerosLike}
+use Rattle.base.specs.Range.{fits32}
 use Rattle.component.specs.Checks.{sizesInRange, depthInRange, waveletInRange}
 use Rattle.component.specs.declared.parameters.Parameters.{Parameters}
 use Rattle.lifting.specs.Planes.{pictureOf, raster}
 use Rattle.transform.specs.Job.{paddedWidth, paddedHeight, pictureFrom, accepted, transformed, synthesised, analysed, analysisStaysIn32}
-use Rattle.transform.proofs.Jobs.{plane-back, samples-back, no-bad-level, no-refusal}
+use Rattle.transform.proofs.Jobs.{plane-back, samples-back, coefficients-in-range, no-bad-level, no-refusal}
 
 -- padded planes with the same coefficients are the same plane
 pub injective :
@@ -25,6 +26,12 @@ injective p sizes depth wavelet a b aSize bSize e =
     sym (plane-back p sizes a aSize)
     ∙ ap (λ (c : List ℤ). raster (paddedHeight p) (paddedWidth p) (pictureFrom p c)) e
     ∙ plane-back p sizes b bSize
+
+-- the coefficients of a plane that stays in 32 bits fit 32 bits, so they can be passed to synthesise
+pub coefficients-fit :
+    (p : Parameters) → sizesInRange p ≡ true → (plane : List ℤ) → length plane ≡ paddedWidth p * paddedHeight p → analysisStaysIn32 p plane ≡ true
+    → (i : ℕ) → i < length (analysed p plane) → fits32 (getD (analysed p plane) i (pos 0)) ≡ true
+coefficients-fit p sizes plane size stays i inside = coefficients-in-range p sizes plane size stays i inside
 
 -- synthesis does not refuse the coefficients of a plane that stays in 32 bits, and gives its first height rows and width columns
 pub restored :

@@ -5,8 +5,8 @@ use mathlib.Core.Logic.{_≢_}
 use mathlib.Core.Bool.{true, not, _&&_}
 use lib.Dec.{eqb}
 use mathlib.Core.List.{List}
-use Prim.Native.Nat.{ℕ, _+_, _*_}
-use native.Mathlib.Nat.{mul-comm}
+use Prim.Native.Nat.{ℕ, _+_, _*_, _/_, _%_, _<_}
+use native.Mathlib.Nat.{mul-comm, mod-lt, div-lt-iff-lt-mul}
 use native.Mathlib.Decide.{ℕ-discrete}
 use native.Mathlib.Omega.{arith}
 use lib.Arith.{digits-lt}
@@ -16,6 +16,7 @@ use borrow.Author.Tests.{eq-eqb, ne-eqb, eqb-true}
 use Rattle.base.specs.Every.{allBelow}
 use Rattle.base.specs.Fill.{zerosLike}
 use Rattle.base.specs.Range.{fits32}
+use Rattle.base.proofs.Fills.{getD-tabulate}
 use Rattle.base.proofs.Everys.{and-left, and-right, and-true, all-at}
 use Rattle.component.specs.Sizes.{sizeAt}
 use Rattle.component.specs.Checks.{sizesInRange, depthInRange, waveletInRange, areaOf, planesFit, refusalOf}
@@ -31,7 +32,7 @@ use Rattle.lifting.specs.Planes.{pictureOf, raster}
 use Rattle.transform.specs.Job.{Synthesised, paddedWidth, paddedHeight, lowWidth, lowHeight, pictureFrom, badLevel, lengthsOf, analysed, analysisStaysIn32, unchanged, overflowed, accepted, transformed, synthesised}
 use Rattle.lifting.specs.Layout.{Agree}
 use Rattle.lifting.proofs.PassLaws.{AllFit}
-use Rattle.transform.proofs.LevelLaws.{synthesis-back, synthesis-fits}
+use Rattle.transform.proofs.LevelLaws.{synthesis-back, synthesis-fits, analysis-in-range}
 use Rattle.transform.proofs.Rasters.{length-raster, picture-raster, raster-is, raster-same}
 
 -- The picture of a padded plane, and what its analysis makes of it.
@@ -84,6 +85,22 @@ module _ (p : Parameters) (sizes : sizesInRange p ≡ true) where
       plane-fits fit row column r c =
           all-at (λ i. fits32 (getD plane i (pos 0))) (length plane) (row * paddedWidth p + column) fit
           (rw (size, mul-comm (paddedWidth p) (paddedHeight p)) (digits-lt r c))
+
+      -- where the numbers of its analysis fit too, its coefficients fit
+      pub coefficients-in-range :
+          analysisStaysIn32 p plane ≡ true → (i : ℕ) → i < length (analysed p plane) → fits32 (getD (analysed p plane) i (pos 0)) ≡ true
+      unfolding analysisStaysIn32 analysed pictureOf raster
+      coefficients-in-range stays i inside =
+          let fit =
+          analysis-in-range (filterOf (p .wavelet)) (lowHeight p) (lowWidth p)
+          (low-some (p .depth) (p .height) (height-least p sizes)) (low-some (p .depth) (p .width) (width-least p sizes))
+          (p .depth) (planePicture p plane)
+          (rw (sizeAt-padded (p .depth) (p .height), sizeAt-padded (p .depth) (p .width)) (plane-fits (and-left _ _ stays)))
+          (and-right (allBelow (length plane) (λ i. fits32 (getD plane i (pos 0)))) _ stays) in
+          let below : i < paddedHeight p * paddedWidth p = omega (arith, length-raster (paddedHeight p) (paddedWidth p) (analysedPicture p plane)) in
+          let some : 0 < paddedWidth p = omega (arith, width-least p sizes, padded-least (p .depth) (p .width)) in
+          rw (getD-tabulate (paddedHeight p * paddedWidth p) (λ k. analysedPicture p plane (k / paddedWidth p) (k % paddedWidth p)) i (pos 0) below)
+          ((rw (sizeAt-padded (p .depth) (p .height), sizeAt-padded (p .depth) (p .width)) at fit) (i / paddedWidth p) (i % paddedWidth p) (div-lt-iff-lt-mul some .1 below) (mod-lt i some))
 
       -- where the numbers of its analysis fit too, no level of synthesis is bad
       pub no-bad-level : analysisStaysIn32 p plane ≡ true → badLevel p (analysed p plane) ≡ 0

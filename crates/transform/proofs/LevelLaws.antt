@@ -3,9 +3,9 @@
 -- Assumes nothing.
 use mathlib.Core.Path.{_≡_, refl, sym, ap, ap₂, _∙_}
 use mathlib.Core.Bool.{Bool, true, false, cond}
-use Prim.Native.Nat.{ℕ, zero, suc, _+_, _*_, _/_, _%_, _≤_, _<_}
+use Prim.Native.Nat.{ℕ, zero, suc, _+_, _-_, _*_, _/_, _%_, _≤_, _<_}
 use native.Mathlib.Nat.{add-sub-cancel-left}
-use native.Mathlib.Decide.{ℕ-discrete}
+use native.Mathlib.Decide.{ℕ-discrete, decLt}
 use native.Mathlib.Omega.{arith}
 use lib.Dec.{eqb}
 use borrow.Author.Tests.{lt-ltb, le-ltb, eq-eqb, ne-eqb}
@@ -129,6 +129,35 @@ module _ (f : Filter) (h w : ℕ) (tall : 1 ≤ h) (wide : 1 ≤ w) where
   unfolding lowBand levelAnalysis sizeAt
   low-fits n P fit new row column r c =
       runAll-fits (sizeAt h (suc n)) (sizeAt w (suc n)) (analysisPasses f) P fit new (2 * row) (2 * column) (omega arith) (omega arith)
+
+  -- where a picture and the numbers of its analysis fit, its coefficients fit
+  pub analysis-in-range :
+      (n : ℕ) (P : Picture) → AllFit (sizeAt h n) (sizeAt w n) P → analysisFits f h w n P ≡ true → AllFit (sizeAt h n) (sizeAt w n) (analysis f h w n P)
+  unfolding analysis analysisFits separate levelAnalysis sizeAt
+  analysis-in-range zero P fit new row column r c = fit row column r c
+  analysis-in-range (suc n) P fit new row column r c =
+      let level = and-left _ _ new in
+      let rest = and-right (allNewFit (sizeAt h (suc n)) (sizeAt w (suc n)) (analysisPasses f) P) _ new in
+      let all = runAll-fits (sizeAt h (suc n)) (sizeAt w (suc n)) (analysisPasses f) P fit level in
+      let low = analysis-in-range n (lowAfter f h w n P) (low-fits n P fit level) rest in
+      elim (decLt row (sizeAt h n)) [
+        | yes upper ↦
+            elim (decLt column (sizeAt w n)) [
+              | yes left ↦ rw (lt-ltb row (sizeAt h n) upper, lt-ltb column (sizeAt w n) left) (low row column upper left)
+              | no right ↦
+                  rw (lt-ltb row (sizeAt h n) upper, le-ltb column (sizeAt w n) (omega arith))
+                  (all (2 * row) (2 * (column - sizeAt w n) + 1) (omega arith) (omega arith))
+            ]
+        | no lower ↦
+            elim (decLt column (sizeAt w n)) [
+              | yes left ↦
+                  rw (le-ltb row (sizeAt h n) (omega arith), lt-ltb column (sizeAt w n) left)
+                  (all (2 * (row - sizeAt h n) + 1) (2 * column) (omega arith) (omega arith))
+              | no right ↦
+                  rw (le-ltb row (sizeAt h n) (omega arith), le-ltb column (sizeAt w n) (omega arith))
+                  (all (2 * (row - sizeAt h n) + 1) (2 * (column - sizeAt w n) + 1) (omega arith) (omega arith))
+            ]
+      ]
 
   -- where a picture and the numbers of its analysis fit, no level of synthesis is bad
   pub synthesis-fits :

@@ -11,6 +11,7 @@ use Rattle.lifting.specs.Layout.{Agree}
 use Rattle.lifting.specs.Passes.{Picture, runAll, allNewFit}
 use Rattle.lifting.specs.Planes.{pictureOf}
 use Rattle.lifting.specs.Table.{filterFrom}
+use Rattle.lifting.specs.declared.columns.Frame.{Frame}
 use Rattle.lifting.specs.declared.filters.LiftingFilter.{LiftingFilter}
 use Rattle.transform.specs.Job.{paddedWidth, lowHeight, lowWidth}
 use Rattle.transform.specs.Synthesis.{synthesisPasses, interleave, synthesis, firstBadLevel}
@@ -58,6 +59,10 @@ module _ (f : LiftingFilter) (e : Extent) where
 abbrev pub levelInput : Extent → List ℤ → List ℤ → ℕ → Picture
 levelInput e work coefficients n =
     interleave (sizeAt (e .«low_rows») n) (sizeAt (e .«low_columns») n) (workPicture e n work) (coefficientPicture e coefficients)
+
+-- The same in a frame: its bands around the picture that stands in every other row of it.
+abbrev pub bandsAround : Frame → ℕ → List ℤ → List ℤ → Picture
+bandsAround f padded work coefficients = interleave (f .«band_rows») (f .«band_columns») (pictureOf (2 * f .stride) work) (pictureOf padded coefficients)
 
 -- Where the picture of depth n stands in the end: in the work plane; or, where it is the component's, its first rows and columns in the samples,
 -- and the work plane holds zeros.

@@ -5,9 +5,9 @@ ghost use lib.IntN.{pos};
 ghost use lib.ListN.{length, getD};
 ghost use Rattle.base.specs.Fill.{fill};
 ghost use Rattle.lines.specs.Buffers.{Within};
-ghost use Rattle.lifting.specs.Planes.{pictureOf, raster};
-ghost use Rattle.lifting.specs.Layout.{Agree, Placed, halvesOf};
-ghost use Rattle.transform.specs.Synthesis.{interleave};
+ghost use Rattle.lifting.specs.Planes.{pictureOf};
+ghost use Rattle.lifting.specs.Layout.{Agree, Placed, AgreeOn, halvesPicture};
+ghost use Rattle.transform.specs.Geometry.{bandsAround};
 use base::plane;
 use lifting::columns::Frame;
 use lines::measures::copy_measured;
@@ -24,7 +24,7 @@ pub fn interleave_bands(
 ) -> u32
     requires { ⌜ Placed frame (now work) ⌝ }
     requires { ⌜ (2 * frame .«band_columns» ≤ «padded_width») × (2 * frame .«band_rows» * «padded_width» ≤ length (now coefficients)) ⌝ }
-    ensures interleaved { λ _. ⌜ Agree (2 * frame .«band_rows») (2 * frame .«band_columns») (halvesOf (frame .«band_columns») (frame .stride) (now (work .exit))) (interleave (frame .«band_rows») (frame .«band_columns») (pictureOf (2 * frame .stride) (now (work .entry))) (pictureOf «padded_width» (now (coefficients .entry)))) ⌝ }
+    ensures interleaved { λ _. ⌜ AgreeOn frame (halvesPicture frame (now (work .exit))) (bandsAround frame «padded_width» (now (work .entry)) (now (coefficients .entry))) ⌝ }
     ensures measured { λ m. ⌜ ((row : ℕ) → row < 2 * frame .«band_rows» → Within (now (work .exit)) (row * frame .stride) (2 * frame .«band_columns») (suc m)) ⌝ }
 {
     let rows = frame.band_rows;

@@ -18,7 +18,7 @@ use Rattle.codeblocks.specs.Codeblocks.{codeblockArea, onFlag, codeblockValues,
 use Rattle.prediction.specs.Prediction.{meanOf, predictor, storePredicted, predictedValue, predictedRow, prediction}
 use Rattle.unpack.specs.Subband.{boundary, onRead, headerAt, goesOnAt, subbandData, checkedData, headed, predictedBand, isPredicted, codeblocksOf, subbandFrom, subband}
 use Rattle.unpack.specs.Job.{endedWith, subbandsFrom, unpacked}
-use Rattle.lifting.specs.Filters.{filter0, filter1, filter2, haarSteps, filter3, filter4, filter5, filter6, filterOf}
+use Rattle.lifting.specs.Filters.{deslauriersDubuc97, leGall53, deslauriersDubuc137, haarSteps, haar, haarWithShift, fidelity, daubechies97, filterOf}
 use Rattle.lifting.specs.Lifting.{changesEven, adds, clamp, readPlace, tapSum, rounding, update, changes, lift}
 use Rattle.lifting.specs.Passes.{run, runAll, assigns, newFit, allNewFit}
 use Rattle.lifting.specs.Planes.{pictureOf, raster}
@@ -31,5 +31,5 @@ use Rattle.recording.specs.Output.{isLent, lentPlane, entryDecoded, heading, si
 use Rattle.contents.proofs.WholeCase.{wholeCase}
 
 pub whole-case-output : output wholeCase ≡ ascii "entry 0: 2 x 2\n9 12\n7 11\n"
-unfolding allBelow tabulate zerosLike fits32 withSign walk paddedSize bandSize sizeAt subbandLevel detailOf orientation leftOf topOf subbandAt sizesInRange depthInRange waveletInRange countsInRange codeblocksInRange areaOf planesFit refusalOf bitAt present takeBit onBit codeFrom unsigned withSignBit signed factorOf quantFactor quantOffset scaled dequantise going onNumber store value rectangleValues partStart codeblockArea onFlag codeblockValues codeblock codeblocks meanOf predictor storePredicted predictedValue predictedRow prediction boundary onRead headerAt goesOnAt subbandData checkedData headed predictedBand isPredicted codeblocksOf subbandFrom subband endedWith subbandsFrom unpacked filter0 filter1 filter2 haarSteps filter3 filter4 filter5 filter6 filterOf changesEven adds clamp readPlace tapSum rounding update changes lift run runAll assigns newFit allNewFit pictureOf raster synthesisPasses interleave synthesis levelFits firstBadLevel pictureFrom badLevel accepted overflowed unchanged transformed synthesised decodeUnchanged zeroed decodeAccepted unpackedAndSynthesised decoded bigEndian codeblockCount codeblockCounts parametersAt offsetAt lengthAt bodyStart entryIsRight tableIsRight entryCount body ascii placesWithin decimal textSigned spaced textRow rows isLent lentPlane entryDecoded heading sizeText pictureText refusalText entryLines entryText joined output wholeCase
+unfolding allBelow tabulate zerosLike fits32 withSign walk paddedSize bandSize sizeAt subbandLevel detailOf orientation leftOf topOf subbandAt sizesInRange depthInRange waveletInRange countsInRange codeblocksInRange areaOf planesFit refusalOf bitAt present takeBit onBit codeFrom unsigned withSignBit signed factorOf quantFactor quantOffset scaled dequantise going onNumber store value rectangleValues partStart codeblockArea onFlag codeblockValues codeblock codeblocks meanOf predictor storePredicted predictedValue predictedRow prediction boundary onRead headerAt goesOnAt subbandData checkedData headed predictedBand isPredicted codeblocksOf subbandFrom subband endedWith subbandsFrom unpacked deslauriersDubuc97 leGall53 deslauriersDubuc137 haarSteps haar haarWithShift fidelity daubechies97 filterOf changesEven adds clamp readPlace tapSum rounding update changes lift run runAll assigns newFit allNewFit pictureOf raster synthesisPasses interleave synthesis levelFits firstBadLevel pictureFrom badLevel accepted overflowed unchanged transformed synthesised decodeUnchanged zeroed decodeAccepted unpackedAndSynthesised decoded bigEndian codeblockCount codeblockCounts parametersAt offsetAt lengthAt bodyStart entryIsRight tableIsRight entryCount body ascii placesWithin decimal textSigned spaced textRow rows isLent lentPlane entryDecoded heading sizeText pictureText refusalText entryLines entryText joined output wholeCase
 whole-case-output = refl

@@ -7,7 +7,7 @@ use Rattle.base.specs.Fill.{tabulate}
 use Rattle.base.specs.Sign.{withSign}
 use Rattle.exp_golomb.specs.Bits.{bitAt, present, takeBit}
 use Rattle.exp_golomb.specs.Codes.{onBit, codeFrom, unsigned, withSignBit, signed}
-use Rattle.lifting.specs.Filters.{filter0, filter1, filter2, filter3, filter4, filter5, filter6, haarSteps, filterOf}
+use Rattle.lifting.specs.Filters.{deslauriersDubuc97, leGall53, deslauriersDubuc137, haar, haarWithShift, fidelity, daubechies97, haarSteps, filterOf}
 use Rattle.lifting.specs.Lifting.{changesEven, adds, clamp, readPlace, tapSum, rounding, update, changes, lift}
 use Rattle.lifting.specs.Passes.{run, runAll}
 use Rattle.lifting.specs.Planes.{pictureOf, raster}
@@ -19,6 +19,6 @@ use Rattle.worked_examples.specs.Examples.{Row, readFrom, table}
 pub worked-examples : map (λ (row : Row). row .computed) table ≡ map (λ (row : Row). row .owed) table
 unfolding table readFrom tabulate withSign meanOf factorOf quantFactor quantOffset scaled dequantise
     bitAt present takeBit onBit codeFrom unsigned withSignBit signed
-    filter0 filter1 filter2 filter3 filter4 filter5 filter6 haarSteps filterOf
+    deslauriersDubuc97 leGall53 deslauriersDubuc137 haar haarWithShift fidelity daubechies97 haarSteps filterOf
     changesEven adds clamp readPlace tapSum rounding update changes lift run runAll pictureOf raster
 worked-examples = refl

@@ -4,7 +4,7 @@ use mathlib.Core.Path.{refl}
 use native.Mathlib.Omega.{arith}
 use borrow.Author.Needs.{needs}
 use Rattle.base.specs.Every.{allBelow}
-use Rattle.lifting.specs.Filters.{filterOf, filter0, filter1, filter2, haarSteps, filter3, filter4, filter5, filter6}
+use Rattle.lifting.specs.Filters.{filterOf, deslauriersDubuc97, leGall53, deslauriersDubuc137, haarSteps, haar, haarWithShift, fidelity, daubechies97}
 use Rattle.lifting.specs.Table.{typeOf, stepOf, largest, gainOf}
 use Rattle.lifting.proofs.TableLaws.{two, four, seven, entry, entry-says}
 use Rattle.lifting.proofs.filters.step_at.Statement.{statement}
@@ -17,7 +17,7 @@ array-copy-out-filter : tie.Need-array-copy-out-filter
 array-copy-out-filter c = search needs
 
 array-copy-out-result : tie.Need-array-copy-out-result
-unfolding filterOf filter0 filter1 filter2 haarSteps filter3 filter4 filter5 filter6
+unfolding filterOf deslauriersDubuc97 leGall53 deslauriersDubuc137 haarSteps haar haarWithShift fidelity daubechies97
 array-copy-out-result c =
     let bound = c .before .pre .1 in
     seven (c .before .args .wavelet) (c .before .pre .0)
@@ -36,7 +36,7 @@ mul-result : tie.Need-mul-result
 mul-result c = omega (arith, array-copy-out-result c)
 
 returns : tie.Need-returns
-unfolding filterOf filter0 filter1 filter2 haarSteps filter3 filter4 filter5 filter6 stepOf typeOf largest gainOf allBelow
+unfolding filterOf deslauriersDubuc97 leGall53 deslauriersDubuc137 haarSteps haar haarWithShift fidelity daubechies97 stepOf typeOf largest gainOf allBelow
 returns c =
     let wavelet = c .before .before .args .wavelet in
     let k = c .before .before .args .k in
