@@ -19,7 +19,10 @@ pub fn decode(
     work: &mut [i32],
     samples: &mut [i32],
 ) -> Answer
-    ensures { λ r. ⌜ outcome r (now (coefficients .exit)) (now (work .exit)) (now (samples .exit)) ≡ decoded p (now (bytes .entry)) (now (coefficients .entry)) (now (work .entry)) (now (samples .entry)) ⌝ }
+    ensures { λ r. ⌜
+        outcome r (now (coefficients .exit)) (now (work .exit)) (now (samples .exit))
+        ≡ decoded p (now (bytes .entry)) (now (coefficients .entry)) (now (work .entry)) (now (samples .entry))
+        ⌝ }
 {
     let lengths = Lengths {
         coefficients: coefficients.len(),

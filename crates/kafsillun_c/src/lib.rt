@@ -16,7 +16,9 @@ pub extern "C" fn kafsillun_unpack(
     bytes: &[u8],
     coefficients: &mut [i32],
 ) -> KafsillunAnswer
-    ensures { λ r. ⌜ unpackOutcome (answerOf r) (now (coefficients .exit)) ≡ unpacked (parametersOf p) (now (bytes .entry)) (now (coefficients .entry)) ⌝ }
+    ensures { λ r. ⌜
+        unpackOutcome (answerOf r) (now (coefficients .exit)) ≡ unpacked (parametersOf p) (now (bytes .entry)) (now (coefficients .entry))
+        ⌝ }
 {
     let answer = unpack::unpack(parameters_of(p), bytes, coefficients);
     answer_of(answer)
@@ -31,7 +33,10 @@ pub extern "C" fn kafsillun_synthesise(
     work: &mut [i32],
     samples: &mut [i32],
 ) -> KafsillunAnswer
-    ensures { λ r. ⌜ synthesisOutcome (answerOf r) (now (work .exit)) (now (samples .exit)) ≡ synthesised (parametersOf p) (now (coefficients .entry)) (now (work .entry)) (now (samples .entry)) ⌝ }
+    ensures { λ r. ⌜
+        synthesisOutcome (answerOf r) (now (work .exit)) (now (samples .exit))
+        ≡ synthesised (parametersOf p) (now (coefficients .entry)) (now (work .entry)) (now (samples .entry))
+        ⌝ }
 {
     transform_c::kafsillun_synthesise(p, coefficients, work, samples)
 }
@@ -45,7 +50,10 @@ pub extern "C" fn kafsillun_decode(
     work: &mut [i32],
     samples: &mut [i32],
 ) -> KafsillunAnswer
-    ensures { λ r. ⌜ decodeOutcome (answerOf r) (now (coefficients .exit)) (now (work .exit)) (now (samples .exit)) ≡ decoded (parametersOf p) (now (bytes .entry)) (now (coefficients .entry)) (now (work .entry)) (now (samples .entry)) ⌝ }
+    ensures { λ r. ⌜
+        decodeOutcome (answerOf r) (now (coefficients .exit)) (now (work .exit)) (now (samples .exit))
+        ≡ decoded (parametersOf p) (now (bytes .entry)) (now (coefficients .entry)) (now (work .entry)) (now (samples .entry))
+        ⌝ }
 {
     let answer = decode::decode(parameters_of(p), bytes, coefficients, work, samples);
     answer_of(answer)

@@ -17,7 +17,7 @@ use Rattle.base.specs.Fill.{fill}
 use Rattle.base.specs.Range.{fits32}
 use Rattle.base.proofs.Everys.{all-at, all-same}
 use Rattle.base.proofs.Fills.{length-fill, getD-fill-in, getD-fill-out}
-use Rattle.lines.specs.Buffers.{Within, heldEntry, woven}
+use Rattle.lines.specs.Buffers.{Within, clampedEntry, woven}
 use Rattle.lines.specs.Sums.{sumBelow, tapAt, changed}
 use Rattle.lines.proofs.BufferLaws.{woven-even, woven-odd}
 use Rattle.lifting.specs.Lifting.{Line, rounding, changes, lift}
@@ -70,8 +70,8 @@ module _ (halves : List ℤ) where
   woven-target true k = rw (add-zero (2 * k)) (woven-even halves k)
   woven-target false k = woven-odd halves k
 
-  woven-source : (even : Bool) (b s : ℕ) → woven halves (sourceRow even b s) ≡ getD halves (baseOf (not even) + heldEntry b s) (pos 0)
-  unfolding sourceRow heldEntry
+  woven-source : (even : Bool) (b s : ℕ) → woven halves (sourceRow even b s) ≡ getD halves (baseOf (not even) + clampedEntry b s) (pos 0)
+  unfolding sourceRow clampedEntry
   woven-source true b s =
       let place : 2056 + (4 + min (s - 4) (b - 1)) ≡ 2060 + min (s - 4) (b - 1) = omega arith in
       rw place (woven-odd halves (min (s - 4) (b - 1)))
@@ -117,7 +117,7 @@ new-target false adds fit k = rw (changes-even false adds k, changes-odd false a
 -- What tap t of a step reads for entry k of the half that the step changes, and the number that it gives to that entry: the bases of that half
 -- and of the one that is read.
 abbrev pub readEntry : LiftingStep → ℕ → ℕ → List ℤ → ℕ → ℕ → ℤ
-readEntry r b source halves k t = getD halves (source + heldEntry b (r .lead + t + k)) (pos 0)
+readEntry r b source halves k t = getD halves (source + clampedEntry b (r .lead + t + k)) (pos 0)
 
 abbrev pub newEntry : LiftingStep → ℕ → ℕ → ℕ → List ℤ → ℕ → ℤ
 newEntry r b target source halves k =
@@ -235,7 +235,7 @@ pub record HalfRead (r : LiftingStep) (b : ℕ) (reach : Reach) (target source :
   pub sane : Sane r
   pub some : 1 ≤ b
   pub apart : (i j : ℕ) → i < b + 8 → j < b + 8 → target + i ≢ source + j
-  pub ends : (s : ℕ) → s < b + 8 → getD extended (source + s) (pos 0) ≡ getD halves (source + heldEntry b s) (pos 0)
+  pub ends : (s : ℕ) → s < b + 8 → getD extended (source + s) (pos 0) ≡ getD halves (source + clampedEntry b s) (pos 0)
   pub rest : (p : ℕ) → ((s : ℕ) → s < b + 8 → p ≢ source + s) → getD extended p (pos 0) ≡ getD halves p (pos 0)
   pub placed : (t : ℕ) → t < 8 → getD places t 0 ≡ source + r .lead + t
   pub targets : Within halves (target + 4) b (targetReach r reach)
@@ -250,7 +250,7 @@ module _
     target-kept k inside = read .rest (target + 4 + k) (λ s h e. read .apart (4 + k) s (omega arith) h (omega arith))
 
     source-kept : (k : ℕ) → k < b → getD extended (source + 4 + k) (pos 0) ≡ getD halves (source + 4 + k) (pos 0)
-    unfolding heldEntry
+    unfolding clampedEntry
     source-kept k inside =
         let place : source + (4 + k) ≡ source + 4 + k = omega arith in
         let here : source + (4 + min (4 + k - 4) (b - 1)) ≡ source + 4 + k = omega arith in
@@ -267,7 +267,7 @@ module _
     tap-same k t inside h = rw (entry-read k t inside h)
 
     read-within : (k t : ℕ) → natAbs (readEntry r b source halves k t) ≤ sourceReach r reach
-    unfolding heldEntry
+    unfolding clampedEntry
     read-within k t =
         let entry = min (r .lead + t + k - 4) (b - 1) in
         let order : source + (4 + entry) ≡ source + 4 + entry = omega arith in

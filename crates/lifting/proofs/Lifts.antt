@@ -33,13 +33,13 @@ less-odd z n e =
     let twice : pos 2 *ℤ z ≡ pos (suc n) = sym (suc-pred (pos 2 *ℤ z)) ∙ ap sucℤ (sym (-ℤ-one (pos 2 *ℤ z)) ∙ e) in
     omega (arith, twice-even z (suc n) twice)
 
--- a place held to a range stays in it, and keeps the parity that it shares with the range's ends
-held :
+-- a place clamped to a range stays in it, and keeps the parity that it shares with the range's ends
+clamped :
     (low high : ℕ) (z : ℤ) → low ≤ high → high % 2 ≡ low % 2 → ((n : ℕ) → z ≡ pos n → n % 2 ≡ low % 2)
     → (clamp low high z ≤ high) × (clamp low high z % 2 ≡ low % 2)
 unfolding clamp
-held low high (pos n) order ends parity = omega (arith, parity n refl)
-held low high (negsuc n) order ends parity = (order, refl)
+clamped low high (pos n) order ends parity = omega (arith, parity n refl)
+clamped low high (negsuc n) order ends parity = (order, refl)
 
 -- a step that changes one parity does not change the other
 other-parity : (even : Bool) (x : ℕ) → x % 2 ≡ cond even 1 0 → eqb (x % 2) (cond even 0 1) ≡ false
@@ -89,10 +89,10 @@ module _ (N : ℕ) (size : EvenLength N) where
   read-place : (even : Bool) (n : ℕ) (i : ℤ) → (readPlace even N n i < N) × (readPlace even N n i % 2 ≡ cond even 1 0)
   unfolding readPlace
   read-place true n i =
-      let place = held 1 (N - 1) (pos 2 *ℤ (pos n +ℤ i) -ℤ pos 1) (omega arith) (omega arith) (less-odd (pos n +ℤ i)) in
+      let place = clamped 1 (N - 1) (pos 2 *ℤ (pos n +ℤ i) -ℤ pos 1) (omega arith) (omega arith) (less-odd (pos n +ℤ i)) in
       omega arith
   read-place false n i =
-      let place = held 0 (N - 2) (pos 2 *ℤ (pos n +ℤ i)) (omega arith) (omega arith) (twice-even (pos n +ℤ i)) in
+      let place = clamped 0 (N - 2) (pos 2 *ℤ (pos n +ℤ i)) (omega arith) (omega arith) (twice-even (pos n +ℤ i)) in
       omega arith
 
   -- so the step does not change it

@@ -54,8 +54,8 @@ source-target false b s = refl
 
 target-source : (even : Bool) (b k : ℕ) → k < b → targetRow (not even) k ≡ sourceRow even b (k + 4)
 target-source even b k h =
-    let held : k ≡ min (k + 4 - 4) (b - 1) = omega arith in
-    ap (targetRow (not even)) held ∙ sym (source-target even b (k + 4))
+    let clamped : k ≡ min (k + 4 - 4) (b - 1) = omega arith in
+    ap (targetRow (not even)) clamped ∙ sym (source-target even b (k + 4))
 
 module _ (r : LiftingStep) where
   -- a step changes the targets of the pairs, and no other rows

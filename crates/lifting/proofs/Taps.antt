@@ -71,9 +71,9 @@ place-sum k lead t c =
     ∙ sym (+ℤ-assoc (pos k) (pos (lead + t)) c)
     ∙ ap (λ n. pos n +ℤ c) (omega arith)
 
--- an odd place held to a line's odd places
-held-odd : (b x : ℕ) → max 1 (min (2 * x + 1) (2 * b - 1)) ≡ 2 * min x (b - 1) + 1
-held-odd b x = omega arith
+-- an odd place clamped to a line's odd places
+clamped-odd : (b x : ℕ) → max 1 (min (2 * x + 1) (2 * b - 1)) ≡ 2 * min x (b - 1) + 1
+clamped-odd b x = omega arith
 
 -- what a step that changes the even places reads, and what one that changes the odd places does
 even-reads : (b s : ℕ) → clamp 1 (2 * b - 1) (pos 2 *ℤ (pos s +ℤ negsuc 2) -ℤ pos 1) ≡ 2 * min (s - 4) (b - 1) + 1
@@ -82,7 +82,7 @@ even-reads b s =
     elim (decLt 3 s) [
       | yes far ↦
           let odd : 2 * (s - 3) - 1 ≡ 2 * (s - 4) + 1 = omega arith in
-          rw (difference s 2 (omega arith), difference (2 * (s - 3)) 0 (omega arith), odd) (held-odd b (s - 4))
+          rw (difference s 2 (omega arith), difference (2 * (s - 3)) 0 (omega arith), odd) (clamped-odd b (s - 4))
       | no near ↦
           elim (decLt 2 s) [
             | yes at ↦ let three : s ≡ 3 = omega arith in rw three (omega arith)

@@ -44,6 +44,10 @@ reachAfter r reach =
     (record { even = targetAfter r (reach .odd) (reach .even); odd = reach .odd })
     (record { even = reach .even; odd = targetAfter r (reach .even) (reach .odd) })
 
+-- The numbers in each row of a frame's picture are within a size.
+abbrev pub RowsWithin : Frame → ℕ → List ℤ → Type 0
+RowsWithin f size plane = (row : ℕ) → row < 2 * f .«band_rows» → Within plane (row * f .stride) (2 * f .«band_columns») size
+
 -- The row of pair k that a step changes: where it starts in a frame, and the numbers that the step makes of it.
 abbrev pub rowStart : Frame → LiftingStep → ℕ → ℕ
 rowStart f r k = targetRow (r .even) k * f .stride

@@ -6,7 +6,7 @@ use mathlib.Core.Bool.{Bool, true, false, cond, _||_}
 use mathlib.Core.List.{List, [], _∷_, map}
 use lib.IntN.{ℤ, pos, _+ℤ_, _-ℤ_, _*ℤ_, natAbs}
 use lib.ListN.{length, getD, take}
-use Rattle.lines.specs.Buffers.{Symmetric, heldEntry}
+use Rattle.lines.specs.Buffers.{Symmetric, clampedEntry}
 use Rattle.lines.specs.Sums.{sumBelow, tapAt, changed}
 use Rattle.lifting.specs.Lifting.{Step, rounding, StepType, type1, type2, type3, type4, changes}
 use Rattle.lifting.specs.Filters.{Filter, filterOf}
@@ -61,7 +61,7 @@ lineNew r places plane place x =
 abbrev pub halfNew : LiftingStep → ℕ → ℕ → ℕ → List ℤ → ℕ → ℤ
 halfNew r half target source halves k =
     changed (r .adds) (r .scale) (getD halves (target + 4 + k) (pos 0))
-    (rounding (r .scale) +ℤ sumBelow (λ t. getD (r .taps) t (pos 0) *ℤ getD halves (source + heldEntry half (r .lead + t + k)) (pos 0)) (r .count))
+    (rounding (r .scale) +ℤ sumBelow (λ t. getD (r .taps) t (pos 0) *ℤ getD halves (source + clampedEntry half (r .lead + t + k)) (pos 0)) (r .count))
 
 -- The filter that a record of the code stands for: the steps in use, and the shift.
 abbrev pub stepsInUse : ℕ → List LiftingStep → List Step

@@ -7,11 +7,10 @@ ghost use lib.ListN.{getD};
 ghost use Rattle.base.specs.Every.{allBelow};
 ghost use Rattle.base.specs.Fill.{fill};
 ghost use Rattle.base.specs.Range.{fits32};
-ghost use Rattle.lines.specs.Buffers.{Within};
 ghost use Rattle.lifting.specs.Passes.{columns};
 ghost use Rattle.lifting.specs.Table.{stepOf, Sane, filterFrom, WellFormed};
 ghost use Rattle.lifting.specs.Layout.{Placed, targetRow, sourceRow, framePicture, AgreeOn, runOn, numbersFit, passOn, passNumbersFit};
-ghost use Rattle.lifting.specs.Reach.{reachAfter, ColumnsReach, rowStart, newRow, RowReach};
+ghost use Rattle.lifting.specs.Reach.{reachAfter, ColumnsReach, RowsWithin, rowStart, newRow, RowReach};
 use crate::filters::LiftingFilter;
 use crate::filters::LiftingStep;
 use crate::reach::Reach;
@@ -29,7 +28,7 @@ pub struct Frame {
 // outside 32 bits; then the plane's numbers are of no use.
 pub fn filter_columns(work: &mut [i32], frame: Frame, filter: LiftingFilter, most: u32) -> bool
     requires { ⌜ Placed frame (now work) × WellFormed filter ⌝ }
-    requires { ⌜ ((row : ℕ) → row < 2 * frame .«band_rows» → Within (now work) (row * frame .stride) (2 * frame .«band_columns») (suc most)) ⌝ }
+    requires { ⌜ RowsWithin frame (suc most) (now work) ⌝ }
     ensures told { λ r. ⌜ r ≡ numbersFit frame (map columns (filterFrom filter .steps)) (framePicture frame (now (work .entry))) ⌝ }
     ensures done { λ r. ⌜
         (r ≡ true → AgreeOn frame (framePicture frame (now (work .exit)))
@@ -58,9 +57,10 @@ pub fn filter_columns(work: &mut [i32], frame: Frame, filter: LiftingFilter, mos
 // Runs one step on every column of the picture, whose numbers keep to a reach.
 fn lift_columns(work: &mut [i32], frame: Frame, step: LiftingStep, reach: Reach) -> bool
     requires { ⌜ Placed frame (now work) × Sane step × ColumnsReach frame reach (now work) ⌝ }
-    ensures told { λ r. ⌜ r ≡ passNumbersFit frame (columns (stepOf step)) ((framePicture frame (now (work .entry)))) ⌝ }
+    ensures told { λ r. ⌜ r ≡ passNumbersFit frame (columns (stepOf step)) (framePicture frame (now (work .entry))) ⌝ }
     ensures done { λ r. ⌜
-        (r ≡ true → AgreeOn frame (framePicture frame (now (work .exit))) (passOn frame (columns (stepOf step)) (framePicture frame (now (work .entry)))))
+        (r ≡ true → AgreeOn frame (framePicture frame (now (work .exit)))
+        (passOn frame (columns (stepOf step)) (framePicture frame (now (work .entry)))))
         ⌝ }
     ensures bounded { λ r. ⌜ (r ≡ true → ColumnsReach frame (reachAfter step reach) (now (work .exit))) ⌝ }
 {
@@ -81,7 +81,8 @@ fn lift_row(work: &mut [i32], frame: Frame, k: usize, step: LiftingStep, reach: 
     requires { ⌜ RowReach frame step k reach (now work) ⌝ }
     ensures told { λ r. ⌜ r ≡ allBelow (2 * frame .«band_columns») (λ c. fits32 (newRow frame step k (now (work .entry)) c)) ⌝ }
     ensures done { λ r. ⌜
-        (r ≡ true → now (work .exit) ≡ fill (now (work .entry)) (rowStart frame step k) (2 * frame .«band_columns») (newRow frame step k (now (work .entry))))
+        (r ≡ true → now (work .exit)
+        ≡ fill (now (work .entry)) (rowStart frame step k) (2 * frame .«band_columns») (newRow frame step k (now (work .entry))))
         ⌝ }
 {
     let width = 2 * frame.band_columns;
@@ -104,8 +105,8 @@ fn source_row(even: bool, pairs: usize, s: usize) -> usize
     ensures { λ r. ⌜ r ≡ sourceRow even pairs s ⌝ }
 {
     let forward = if s < 4 { 0 } else { s - 4 };
-    let held = if forward < pairs { forward } else { pairs - 1 };
-    if even { 2 * held + 1 } else { 2 * held }
+    let clamped = if forward < pairs { forward } else { pairs - 1 };
+    if even { 2 * clamped + 1 } else { 2 * clamped }
 }
 
 // Where the rows that eight taps read start in the plane, the first tap's being s.

@@ -43,7 +43,9 @@ pub fn finish_rows(
     requires { ⌜ Placed frame (now work) × WellFormed filter ⌝ }
     requires { ⌜ (width ≤ 2 * frame .«band_columns») × (height ≤ 2 * frame .«band_rows») × (height * width ≤ length (now samples)) ⌝ }
     ensures told { λ r. ⌜ r ≡ numbersFit frame (map rows (filterFrom filter .steps)) (halvesPicture frame (now (work .entry))) ⌝ }
-    ensures done { λ r. ⌜ (r ≡ true → Agree height width (pictureOf width (now (samples .exit))) (rowsPicture frame (filterFrom filter) (now (work .entry)))) ⌝ }
+    ensures done { λ r. ⌜
+        (r ≡ true → Agree height width (pictureOf width (now (samples .exit))) (rowsPicture frame (filterFrom filter) (now (work .entry))))
+        ⌝ }
     ensures fit { λ r. ⌜ (r ≡ true → AllFitOn frame (rowsPicture frame (filterFrom filter) (now (work .entry)))) ⌝ }
     ensures cleared { λ r. ⌜ (r ≡ true → ZerosOn frame (now (work .exit))) ⌝ }
 {
@@ -84,7 +86,10 @@ fn finish_row(
     requires { ⌜ (1 ≤ half) × (half ≤ 2048) × (place + 2 * half ≤ length (now work)) × WellFormed filter ⌝ }
     requires { ⌜ (count ≤ 2 * half) × (to + count ≤ length (now samples)) ⌝ }
     ensures told { λ r. ⌜ r ≡ rowNumbersFit half (filterFrom filter) (halfLine half place (now (work .entry))) ⌝ }
-    ensures done { λ r. ⌜ (r ≡ true → now (samples .exit) ≡ fill (now (samples .entry)) to count (rowShifted half (filterFrom filter) (halfLine half place (now (work .entry))))) ⌝ }
+    ensures done { λ r. ⌜
+        (r ≡ true → now (samples .exit) ≡ fill (now (samples .entry)) to count
+        (rowShifted half (filterFrom filter) (halfLine half place (now (work .entry)))))
+        ⌝ }
     ensures cleared { λ r. ⌜ (r ≡ true → now (work .exit) ≡ fill (now (work .entry)) place (2 * half) (λ x. pos 0)) ⌝ }
 {
     if !filter_row_halves(work, place, halves, half, filter) {
@@ -116,7 +121,9 @@ pub fn filter_rows(
 ) -> bool
     requires { ⌜ Placed frame (now work) × WellFormed filter ⌝ }
     ensures told { λ r. ⌜ r ≡ numbersFit frame (map rows (filterFrom filter .steps)) (halvesPicture frame (now (work .entry))) ⌝ }
-    ensures done { λ r. ⌜ (r ≡ true → AgreeOn frame (framePicture frame (now (work .exit))) (rowsPicture frame (filterFrom filter) (now (work .entry)))) ⌝ }
+    ensures done { λ r. ⌜
+        (r ≡ true → AgreeOn frame (framePicture frame (now (work .exit))) (rowsPicture frame (filterFrom filter) (now (work .entry))))
+        ⌝ }
     ensures fit { λ r. ⌜ (r ≡ true → AllFitOn frame (rowsPicture frame (filterFrom filter) (now (work .entry)))) ⌝ }
 {
     let half = frame.band_columns;
@@ -142,7 +149,10 @@ fn filter_row(
 ) -> bool
     requires { ⌜ (1 ≤ half) × (half ≤ 2048) × (place + 2 * half ≤ length (now work)) × WellFormed filter ⌝ }
     ensures told { λ r. ⌜ r ≡ rowNumbersFit half (filterFrom filter) (halfLine half place (now (work .entry))) ⌝ }
-    ensures done { λ r. ⌜ (r ≡ true → now (work .exit) ≡ fill (now (work .entry)) place (2 * half) (rowShifted half (filterFrom filter) (halfLine half place (now (work .entry))))) ⌝ }
+    ensures done { λ r. ⌜
+        (r ≡ true → now (work .exit) ≡ fill (now (work .entry)) place (2 * half)
+        (rowShifted half (filterFrom filter) (halfLine half place (now (work .entry)))))
+        ⌝ }
 {
     if !filter_row_halves(work, place, halves, half, filter) {
         return false;
@@ -161,7 +171,10 @@ fn filter_row_halves(
 ) -> bool
     requires { ⌜ (1 ≤ half) × (half ≤ 2048) × (place + 2 * half ≤ length (now work)) × WellFormed filter ⌝ }
     ensures told { λ r. ⌜ r ≡ rowNumbersFit half (filterFrom filter) (halfLine half place (now (work .entry))) ⌝ }
-    ensures done { λ r. ⌜ (r ≡ true → (x : ℕ) → x < 2 * half → woven (now (halves .exit)) x ≡ rowAfter half (filterFrom filter) (halfLine half place (now (work .entry))) x) ⌝ }
+    ensures done { λ r. ⌜
+        (r ≡ true → (x : ℕ) → x < 2 * half → woven (now (halves .exit)) x
+        ≡ rowAfter half (filterFrom filter) (halfLine half place (now (work .entry))) x)
+        ⌝ }
 {
     let low_most = copy_measured(halves, 4, work, place, half) as u64;
     let high_most = copy_measured(halves, 2060, work, place + half, half) as u64;
@@ -177,7 +190,10 @@ fn filter_halves(halves: &mut [i32; 4112], half: usize, filter: LiftingFilter, f
     requires { ⌜ (1 ≤ half) × (half ≤ 2048) × WellFormed filter ⌝ }
     requires { ⌜ HalvesReach half first (now halves) ⌝ }
     ensures told { λ r. ⌜ r ≡ rowNumbersFit half (filterFrom filter) (woven (now (halves .entry))) ⌝ }
-    ensures done { λ r. ⌜ (r ≡ true → (x : ℕ) → x < 2 * half → woven (now (halves .exit)) x ≡ rowAfter half (filterFrom filter) (woven (now (halves .entry))) x) ⌝ }
+    ensures done { λ r. ⌜
+        (r ≡ true → (x : ℕ) → x < 2 * half → woven (now (halves .exit)) x
+        ≡ rowAfter half (filterFrom filter) (woven (now (halves .entry))) x)
+        ⌝ }
 {
     let count = filter.count;
     let steps = filter.steps;
@@ -198,8 +214,12 @@ fn filter_halves(halves: &mut [i32; 4112], half: usize, filter: LiftingFilter, f
 fn lift_halves(halves: &mut [i32; 4112], half: usize, step: LiftingStep, reach: Reach) -> bool
     requires { ⌜ (1 ≤ half) × (half ≤ 2048) × Sane step ⌝ }
     requires { ⌜ HalvesReach half reach (now halves) ⌝ }
-    ensures told { λ r. ⌜ r ≡ newFit 1 (2 * half) (rows (stepOf step)) (run 1 (2 * half) (rows (stepOf step)) (λ row. woven (now (halves .entry)))) ⌝ }
-    ensures done { λ r. ⌜ (r ≡ true → (x : ℕ) → x < 2 * half → woven (now (halves .exit)) x ≡ lift (stepOf step) (2 * half) (woven (now (halves .entry))) x) ⌝ }
+    ensures told { λ r. ⌜
+        r ≡ newFit 1 (2 * half) (rows (stepOf step)) (run 1 (2 * half) (rows (stepOf step)) (λ row. woven (now (halves .entry))))
+        ⌝ }
+    ensures done { λ r. ⌜
+        (r ≡ true → (x : ℕ) → x < 2 * half → woven (now (halves .exit)) x ≡ lift (stepOf step) (2 * half) (woven (now (halves .entry))) x)
+        ⌝ }
     ensures bounded { λ r. ⌜ (r ≡ true → HalvesReach half (reachAfter step reach) (now (halves .exit))) ⌝ }
 {
     if step.even {
@@ -220,10 +240,19 @@ fn lift_half(
 ) -> bool
     requires { ⌜ (1 ≤ half) × (half ≤ 2048) × Sane step ⌝ }
     requires { ⌜ (target ≤ 2056) × (source ≤ 2056) × ((i j : ℕ) → i < half + 8 → j < half + 8 → target + i ≢ source + j) ⌝ }
-    requires { ⌜ (reach .even ≤ 2 ^ 32) × (reach .odd ≤ 2 ^ 32) × Within (now halves) (target + 4) half (targetReach step reach) × Within (now halves) (source + 4) half (sourceReach step reach) ⌝ }
+    requires { ⌜
+        (reach .even ≤ 2 ^ 32) × (reach .odd ≤ 2 ^ 32) × Within (now halves) (target + 4) half (targetReach step reach)
+        × Within (now halves) (source + 4) half (sourceReach step reach)
+        ⌝ }
     ensures told { λ r. ⌜ r ≡ allBelow half (λ k. fits32 (halfNew step half target source (now (halves .entry)) k)) ⌝ }
-    ensures done { λ r. ⌜ (r ≡ true → (k : ℕ) → k < half → getD (now (halves .exit)) (target + 4 + k) (pos 0) ≡ halfNew step half target source (now (halves .entry)) k) ⌝ }
-    ensures kept { λ r. ⌜ (r ≡ true → (k : ℕ) → k < half → getD (now (halves .exit)) (source + 4 + k) (pos 0) ≡ getD (now (halves .entry)) (source + 4 + k) (pos 0)) ⌝ }
+    ensures done { λ r. ⌜
+        (r ≡ true → (k : ℕ) → k < half → getD (now (halves .exit)) (target + 4 + k) (pos 0)
+        ≡ halfNew step half target source (now (halves .entry)) k)
+        ⌝ }
+    ensures kept { λ r. ⌜
+        (r ≡ true → (k : ℕ) → k < half → getD (now (halves .exit)) (source + 4 + k) (pos 0)
+        ≡ getD (now (halves .entry)) (source + 4 + k) (pos 0))
+        ⌝ }
     ensures bounded { λ r. ⌜ (r ≡ true → Within (now (halves .exit)) (target + 4) half (targetReach step (reachAfter step reach))) ⌝ }
 {
     extend(halves, source, half);

@@ -32,10 +32,19 @@ pub fn lift_step(
     reach: Reach,
 ) -> bool
     requires { ⌜ Sane step × (width ≤ 4096) × (place + width ≤ length (now plane)) × (reach .even ≤ 2 ^ 32) × (reach .odd ≤ 2 ^ 32) ⌝ }
-    requires { ⌜ ((t : ℕ) → t < step .count → (getD (now places) t 0 + width ≤ length (now plane)) × ((x k : ℕ) → x < width → k < width → getD (now places) t 0 + x ≢ place + k)) ⌝ }
-    requires { ⌜ ((t : ℕ) → t < step .count → Within (now plane) (getD (now places) t 0) width (sourceReach step reach)) × Within (now plane) place width (targetReach step reach) ⌝ }
+    requires { ⌜
+        ((t : ℕ) → t < step .count → (getD (now places) t 0 + width ≤ length (now plane))
+        × ((x k : ℕ) → x < width → k < width → getD (now places) t 0 + x ≢ place + k))
+        ⌝ }
+    requires { ⌜
+        ((t : ℕ) → t < step .count → Within (now plane) (getD (now places) t 0) width (sourceReach step reach))
+        × Within (now plane) place width (targetReach step reach)
+        ⌝ }
     ensures told { λ r. ⌜ r ≡ allBelow width (λ x. fits32 (lineNew step (now (places .entry)) (now (plane .entry)) place x)) ⌝ }
-    ensures done { λ r. ⌜ (r ≡ true → now (plane .exit) ≡ fill (now (plane .entry)) place width (lineNew step (now (places .entry)) (now (plane .entry)) place)) ⌝ }
+    ensures done { λ r. ⌜
+        (r ≡ true → now (plane .exit) ≡ fill (now (plane .entry)) place width
+        (lineNew step (now (places .entry)) (now (plane .entry)) place))
+        ⌝ }
 {
     let taps = step.taps;
     let round = rounding_of(step.scale);

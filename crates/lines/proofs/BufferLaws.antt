@@ -17,7 +17,7 @@ use Rattle.base.specs.Floor.{floorDiv}
 use Rattle.base.specs.Range.{fits32}
 use Rattle.base.proofs.Fills.{fill-none, fill-more, length-fill, getD-fill-in, getD-fill-out, set-fill-out}
 use Rattle.base.proofs.Ranges.{fits32-below, below-fits32}
-use Rattle.lines.specs.Buffers.{heldEntry, woven, shifted}
+use Rattle.lines.specs.Buffers.{clampedEntry, woven, shifted}
 
 -- a difference of natural numbers that is not below 0
 pos-less : (a b : ℕ) → b ≤ a → pos a -ℤ pos b ≡ pos (a - b)
@@ -62,12 +62,12 @@ module _ (l : List ℤ) (base b : ℕ) where
       )
       (fill-more (fill l base (n + 1) (λ k. first)) (base + b + 4) (λ k. last) n (base + b + 4 + n) refl)
 
-  -- four repeated are the entries held to the half
-  pub ends-held :
+  -- four repeated are the entries clamped to the half
+  pub ends-clamped :
       (s : ℕ) → 1 ≤ b → base + b + 8 ≤ length l → s < b + 8
-      → getD (ends l base b 4 (getD l (base + 4) (pos 0)) (getD l (base + b + 3) (pos 0))) (base + s) (pos 0) ≡ getD l (base + heldEntry b s) (pos 0)
-  unfolding heldEntry
-  ends-held s some room h =
+      → getD (ends l base b 4 (getD l (base + 4) (pos 0)) (getD l (base + b + 3) (pos 0))) (base + s) (pos 0) ≡ getD l (base + clampedEntry b s) (pos 0)
+  unfolding clampedEntry
+  ends-clamped s some room h =
       let first = getD l (base + 4) (pos 0) in
       let last = getD l (base + b + 3) (pos 0) in
       let inner = fill l base 4 (λ k. first) in

@@ -22,9 +22,9 @@ Within l place w m = (x : ℕ) → x < w → natAbs (getD l (place + x) (pos 0))
 abbrev pub Symmetric : List ℤ → ℕ → Type 0
 Symmetric l n = (n ≢ 1 → n ≡ 2 * (n / 2)) × ((t : ℕ) → t < n → getD l (n - 1 - t) (pos 0) ≡ getD l t (pos 0))
 
--- The place, behind its base in the line buffer, of entry s − 4 of a half of b entries, held to 0..b − 1.
-unfoldable pub heldEntry : ℕ → ℕ → ℕ
-heldEntry b s = 4 + min (s - 4) (b - 1)
+-- The place, behind its base in the line buffer, of entry s − 4 of a half of b entries, clamped to 0..b − 1.
+unfoldable pub clampedEntry : ℕ → ℕ → ℕ
+clampedEntry b s = 4 + min (s - 4) (b - 1)
 
 -- The row whose even places are the low half and whose odd places are the high half.
 unfoldable pub woven : List ℤ → ℕ → ℤ

@@ -5,13 +5,18 @@ ghost use Prim.Native.Nat.{ℕ, _+_, _*_, _≤_, _<_};
 ghost use lib.IntN.{pos};
 ghost use lib.ListN.{length, getD};
 ghost use Rattle.base.specs.Fill.{fill};
-ghost use Rattle.lines.specs.Buffers.{heldEntry, woven, shifted};
+ghost use Rattle.lines.specs.Buffers.{clampedEntry, woven, shifted};
 
 // Repeats the first and the last entry of the half that stands behind a base four times on either side of it. The rest stays.
 pub fn extend(halves: &mut [i32; 4112], base: usize, half: usize)
     requires { ⌜ (base ≤ 2056) × (1 ≤ half) × (half ≤ 2048) ⌝ }
-    ensures repeated { λ _. ⌜ ((s : ℕ) → s < half + 8 → getD (now (halves .exit)) (base + s) (pos 0) ≡ getD (now (halves .entry)) (base + heldEntry half s) (pos 0)) ⌝ }
-    ensures kept { λ _. ⌜ ((p : ℕ) → ((s : ℕ) → s < half + 8 → p ≢ base + s) → getD (now (halves .exit)) p (pos 0) ≡ getD (now (halves .entry)) p (pos 0)) ⌝ }
+    ensures repeated { λ _. ⌜
+        ((s : ℕ) → s < half + 8 → getD (now (halves .exit)) (base + s) (pos 0)
+        ≡ getD (now (halves .entry)) (base + clampedEntry half s) (pos 0))
+        ⌝ }
+    ensures kept { λ _. ⌜
+        ((p : ℕ) → ((s : ℕ) → s < half + 8 → p ≢ base + s) → getD (now (halves .exit)) p (pos 0) ≡ getD (now (halves .entry)) p (pos 0))
+        ⌝ }
 {
     // As a slice, since of an array behind a reference a proof is not told the length.
     let all: &mut [i32] = halves;

@@ -27,7 +27,10 @@ pub fn start_sums(sums: &mut [i64], width: usize, round: i64)
 pub fn add_tap(sums: &mut [i64; 4096], source: &[i32], place: usize, width: usize, tap: i64)
     requires { ⌜ (width ≤ 4096) × (place + width ≤ length (now source)) ⌝ }
     requires { ⌜ (natAbs tap ≤ 2 ^ 13) × Below (now sums) width (2 ^ 60) ⌝ }
-    ensures summed { λ _. ⌜ now (sums .exit) ≡ fill (now (sums .entry)) 0 width (λ x. getD (now (sums .entry)) x (pos 0) +ℤ tap *ℤ getD (now (source .entry)) (place + x) (pos 0)) ⌝ }
+    ensures summed { λ _. ⌜
+        now (sums .exit) ≡ fill (now (sums .entry)) 0 width
+        (λ x. getD (now (sums .entry)) x (pos 0) +ℤ tap *ℤ getD (now (source .entry)) (place + x) (pos 0))
+        ⌝ }
     ensures small { λ _. ⌜ ((m : ℕ) → Below (now (sums .entry)) width m → Below (now (sums .exit)) width (m + 2 ^ 44)) ⌝ }
 {
     let mut x = 0;
@@ -49,7 +52,10 @@ pub fn sum_taps(
 )
     requires { ⌜ (width ≤ 4096) × (count ≤ 8) × (natAbs round ≤ 2 ^ 44) ⌝ }
     requires { ⌜ ((t : ℕ) → t < count → (natAbs (getD (now taps) t (pos 0)) ≤ 2 ^ 13) × (getD (now places) t 0 + width ≤ length (now source))) ⌝ }
-    ensures summed { λ _. ⌜ ((x : ℕ) → x < width → getD (now (sums .exit)) x (pos 0) ≡ round +ℤ sumBelow (tapAt (now (taps .entry)) (now (places .entry)) (now (source .entry)) x) count) ⌝ }
+    ensures summed { λ _. ⌜
+        ((x : ℕ) → x < width → getD (now (sums .exit)) x (pos 0)
+        ≡ round +ℤ sumBelow (tapAt (now (taps .entry)) (now (places .entry)) (now (source .entry)) x) count)
+        ⌝ }
     ensures small { λ _. ⌜ Below (now (sums .exit)) width (2 ^ 48) ⌝ }
 {
     start_sums(sums, width, round);
@@ -72,8 +78,14 @@ pub fn lift_line(
 ) -> bool
     requires { ⌜ (width ≤ 4096) × (place + width ≤ length (now line)) × (scale < 64) ⌝ }
     requires { ⌜ Below (now sums) width (2 ^ 48) ⌝ }
-    ensures told { λ r. ⌜ r ≡ allBelow width (λ x. fits32 (changed adds scale (getD (now (line .entry)) (place + x) (pos 0)) (getD (now (sums .entry)) x (pos 0)))) ⌝ }
-    ensures done { λ r. ⌜ (r ≡ true → now (line .exit) ≡ fill (now (line .entry)) place width (λ x. changed adds scale (getD (now (line .entry)) (place + x) (pos 0)) (getD (now (sums .entry)) x (pos 0)))) ⌝ }
+    ensures told { λ r. ⌜
+        r ≡ allBelow width (λ x. fits32 (changed adds scale (getD (now (line .entry)) (place + x) (pos 0))
+        (getD (now (sums .entry)) x (pos 0))))
+        ⌝ }
+    ensures done { λ r. ⌜
+        (r ≡ true → now (line .exit) ≡ fill (now (line .entry)) place width
+        (λ x. changed adds scale (getD (now (line .entry)) (place + x) (pos 0)) (getD (now (sums .entry)) x (pos 0))))
+        ⌝ }
 {
     let mut x = 0;
     while x < width {

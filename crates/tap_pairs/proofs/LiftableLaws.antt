@@ -19,7 +19,7 @@ use Rattle.lines.specs.Buffers.{Symmetric}
 use Rattle.lines.specs.Sums.{sumBelow, tapAt, changed}
 use Rattle.tap_pairs.specs.Pairs.{paired, pairSize, pairMost, pairSum, pairGives, readAt, liftedBy, Liftable, Read, halfOf, pairTap, pairPlace}
 use Rattle.lines.proofs.SumLaws.{tap-size, sum-one, zero-added}
-use Rattle.tap_pairs.proofs.PairingLaws.{held-in, held-below, pairs-summed, pairs-room}
+use Rattle.tap_pairs.proofs.PairingLaws.{clamped-in, clamped-below, pairs-summed, pairs-room}
 
 module _ (taps : List ℤ) (places : List ℕ) (count : ℕ) (some : 1 ≤ count) (few : count ≤ 8) (even : Symmetric taps count) where
   -- pair j's tap
@@ -34,21 +34,21 @@ module _ (taps : List ℤ) (places : List ℕ) (count : ℕ) (some : 1 ≤ count
   -- and its places
   place-low : (j : ℕ) → j < halfOf count → pairPlace places count j ≡ getD places (halfOf count - 1 - j) 0
   unfolding pairPlace
-  place-low j h = rw (lt-ltb j 4 (omega arith), held-in (halfOf count) j h) refl
+  place-low j h = rw (lt-ltb j 4 (omega arith), clamped-in (halfOf count) j h) refl
 
   place-high : (j : ℕ) → j < halfOf count → pairPlace places count (4 + j) ≡ getD places (count - halfOf count + j) 0
   unfolding pairPlace
   place-high j h =
       let back : 4 + j - 4 ≡ j = omega arith in
-      rw (le-ltb (4 + j) 4 (omega arith), back, held-in (halfOf count) j h) refl
+      rw (le-ltb (4 + j) 4 (omega arith), back, clamped-in (halfOf count) j h) refl
 
   -- what holds of the place of every tap holds of that of every pair
   place-any : (Q : ℕ → Type 0) → ((t : ℕ) → t < count → Q (getD places t 0)) → (j : ℕ) → j < 8 → Q (pairPlace places count j)
   unfolding pairPlace
   place-any Q all j h =
       elim (decLt j 4) [
-        | yes first ↦ rw (lt-ltb j 4 first) (all _ (omega (arith, held-below (halfOf count) j (omega arith))))
-        | no second ↦ rw (le-ltb j 4 (omega arith)) (all _ (omega (arith, held-below (halfOf count) (j - 4) (omega arith))))
+        | yes first ↦ rw (lt-ltb j 4 first) (all _ (omega (arith, clamped-below (halfOf count) j (omega arith))))
+        | no second ↦ rw (le-ltb j 4 (omega arith)) (all _ (omega (arith, clamped-below (halfOf count) (j - 4) (omega arith))))
       ]
 
   module _ (plane : List ℤ) (x : ℕ) where

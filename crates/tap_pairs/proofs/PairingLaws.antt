@@ -7,24 +7,24 @@ use native.Mathlib.Nat.{suc-mul}
 use native.Mathlib.Omega.{arith}
 use lib.IntN.{ℤ, pos, natAbs, _+ℤ_, _*ℤ_, zero-*ℤ}
 use borrow.Author.Tests.{lt-ltb, le-ltb}
-use Rattle.tap_pairs.specs.Pairs.{heldPair}
+use Rattle.tap_pairs.specs.Pairs.{pairOrMiddle}
 use Rattle.lines.specs.Sums.{sumBelow}
 use Rattle.lines.proofs.SumLaws.{zero-added, around, around-none, around-all, pair-added, share, keeps-share, shares-fit}
 
 -- a pair that there is, one that there is not, and either
-pub held-in : (half j : ℕ) → j < half → heldPair half j ≡ j
-unfolding heldPair
-held-in half j h = rw (lt-ltb j half h) refl
+pub clamped-in : (half j : ℕ) → j < half → pairOrMiddle half j ≡ j
+unfolding pairOrMiddle
+clamped-in half j h = rw (lt-ltb j half h) refl
 
-pub held-out : (half j : ℕ) → half ≤ j → heldPair half j ≡ 0
-unfolding heldPair
-held-out half j h = rw (le-ltb j half h) refl
+pub clamped-out : (half j : ℕ) → half ≤ j → pairOrMiddle half j ≡ 0
+unfolding pairOrMiddle
+clamped-out half j h = rw (le-ltb j half h) refl
 
-pub held-below : (half j : ℕ) → 1 ≤ half → heldPair half j < half
-held-below half j some =
+pub clamped-below : (half j : ℕ) → 1 ≤ half → pairOrMiddle half j < half
+clamped-below half j some =
     elim (decLt j half) [
-      | yes inside ↦ rw (held-in half j inside) inside
-      | no past ↦ rw (held-out half j (omega arith)) some
+      | yes inside ↦ rw (clamped-in half j inside) inside
+      | no past ↦ rw (clamped-out half j (omega arith)) some
     ]
 
 -- Taps f in pairs around the middle of 2 * half: pair j has the factor T j and the numbers A j and B j, and past the last pair the factor is 0.

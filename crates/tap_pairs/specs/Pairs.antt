@@ -69,14 +69,14 @@ halfOf count = (count + 1) / 2
 unfoldable pub pairTap : List ℤ → ℕ → ℕ → ℤ
 pairTap taps count j = cond (ltb j (halfOf count)) (getD taps (halfOf count - 1 - j) (pos 0)) (pos 0)
 
-unfoldable pub heldPair : ℕ → ℕ → ℕ
-heldPair half j = cond (ltb j half) j 0
+unfoldable pub pairOrMiddle : ℕ → ℕ → ℕ
+pairOrMiddle half j = cond (ltb j half) j 0
 
 unfoldable pub pairPlace : List ℕ → ℕ → ℕ → ℕ
 pairPlace places count j =
     cond (ltb j 4)
-    (getD places (halfOf count - 1 - heldPair (halfOf count) j) 0)
-    (getD places (count - halfOf count + heldPair (halfOf count) (j - 4)) 0)
+    (getD places (halfOf count - 1 - pairOrMiddle (halfOf count) j) 0)
+    (getD places (count - halfOf count + pairOrMiddle (halfOf count) (j - 4)) 0)
 
 -- What holds of the taps of a line, and of the lines that they read.
 pub record Read (plane : List ℤ) (place width : ℕ) (taps : List ℤ) (places : List ℕ) (count : ℕ) (narrow : Bool) : Type 0 where

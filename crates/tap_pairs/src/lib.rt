@@ -11,7 +11,7 @@ ghost use Rattle.base.specs.Floor.{floorDiv};
 ghost use Rattle.base.specs.Range.{fits32};
 ghost use Rattle.lines.specs.Sums.{sumBelow, tapAt, changed};
 ghost use Rattle.lines.specs.Buffers.{Symmetric};
-ghost use Rattle.tap_pairs.specs.Pairs.{paired, pairSize, pairMost, Liftable, liftedBy, Read, pairTap, pairPlace, heldPair};
+ghost use Rattle.tap_pairs.specs.Pairs.{paired, pairSize, pairMost, Liftable, liftedBy, Read, pairTap, pairPlace, pairOrMiddle};
 use base::signed;
 
 // A line that is lifted: where it starts in its plane, how many numbers it has, what their sums start with, and the scale.
@@ -36,9 +36,19 @@ pub fn lift_small(
 )
     requires { ⌜ (1 ≤ count) × (count ≤ 8) × Symmetric (now taps) count × (line .place + line .width ≤ length (now plane)) × (line .scale < 32) ⌝ }
     requires { ⌜ Read (now plane) (line .place) (line .width) (now taps) (now places) count narrow ⌝ }
-    requires { ⌜ ((t x : ℕ) → t < count → x < line .width → count * natAbs (tapAt (now taps) (now places) (now plane) x t) + natAbs (line .round) < 2 ^ 31) ⌝ }
-    requires { ⌜ ((x : ℕ) → x < line .width → fits32 (changed adds (line .scale) (getD (now plane) (line .place + x) (pos 0)) (line .round +ℤ sumBelow (tapAt (now taps) (now places) (now plane) x) count)) ≡ true) ⌝ }
-    ensures { λ _. ⌜ now (plane .exit) ≡ fill (now (plane .entry)) (line .place) (line .width) (λ x. changed adds (line .scale) (getD (now (plane .entry)) (line .place + x) (pos 0)) (line .round +ℤ sumBelow (tapAt (now (taps .entry)) (now (places .entry)) (now (plane .entry)) x) count)) ⌝ }
+    requires { ⌜
+        ((t x : ℕ) → t < count → x < line .width → count * natAbs (tapAt (now taps) (now places) (now plane) x t) + natAbs
+        (line .round) < 2 ^ 31)
+        ⌝ }
+    requires { ⌜
+        ((x : ℕ) → x < line .width → fits32 (changed adds (line .scale) (getD (now plane) (line .place + x) (pos 0))
+        (line .round +ℤ sumBelow (tapAt (now taps) (now places) (now plane) x) count)) ≡ true)
+        ⌝ }
+    ensures { λ _. ⌜
+        now (plane .exit) ≡ fill (now (plane .entry)) (line .place) (line .width)
+        (λ x. changed adds (line .scale) (getD (now (plane .entry)) (line .place + x) (pos 0))
+        (line .round +ℤ sumBelow (tapAt (now (taps .entry)) (now (places .entry)) (now (plane .entry)) x) count))
+        ⌝ }
 {
     let pairs = pair_places(places, count);
     let t0 = pair_tap(taps, count, 0);
@@ -82,14 +92,14 @@ fn pair_place(places: &[usize; 8], count: usize, j: usize) -> usize
 {
     let half = (count + 1) / 2;
     if j < 4 {
-        return places[half - 1 - held_pair(half, j)];
+        return places[half - 1 - pair_or_middle(half, j)];
     }
-    places[count - half + held_pair(half, j - 4)]
+    places[count - half + pair_or_middle(half, j - 4)]
 }
 
 // The pair, or the middle one where there is no such pair.
-fn held_pair(half: usize, j: usize) -> usize
-    ensures { λ r. ⌜ r ≡ heldPair half j ⌝ }
+fn pair_or_middle(half: usize, j: usize) -> usize
+    ensures { λ r. ⌜ r ≡ pairOrMiddle half j ⌝ }
 {
     if j < half { j } else { 0 }
 }
@@ -108,7 +118,10 @@ pub fn lift_pairs(
     narrow: bool,
 )
     requires { ⌜ Liftable (now plane) (line .place) (line .width) (now pairs) t0 t1 t2 t3 (line .round) (line .scale) adds single narrow ⌝ }
-    ensures { λ _. ⌜ now (plane .exit) ≡ liftedBy (now (plane .entry)) (line .place) (line .width) (now (pairs .entry)) t0 t1 t2 t3 (line .round) (line .scale) adds single ⌝ }
+    ensures { λ _. ⌜
+        now (plane .exit) ≡ liftedBy (now (plane .entry)) (line .place) (line .width) (now (pairs .entry)) t0 t1 t2 t3 (line .round)
+        (line .scale) adds single
+        ⌝ }
 {
     if single {
         lift_single(plane, line, pairs, t0, t1, t2, t3, adds);
@@ -167,7 +180,10 @@ fn lift_single(
     adds: bool,
 )
     requires { ⌜ Liftable (now plane) (line .place) (line .width) (now pairs) t0 t1 t2 t3 (line .round) (line .scale) adds true false ⌝ }
-    ensures { λ _. ⌜ now (plane .exit) ≡ liftedBy (now (plane .entry)) (line .place) (line .width) (now (pairs .entry)) t0 t1 t2 t3 (line .round) (line .scale) adds true ⌝ }
+    ensures { λ _. ⌜
+        now (plane .exit) ≡ liftedBy (now (plane .entry)) (line .place) (line .width) (now (pairs .entry)) t0 t1 t2 t3 (line .round)
+        (line .scale) adds true
+        ⌝ }
 {
     if is_step(t0, t1, t2, t3, adds, 1, 0, 0, 0, true) {
         lift_by(plane, line, pairs, 1, 0, 0, 0, true, true, false);
@@ -192,7 +208,10 @@ fn lift_near(
     adds: bool,
 )
     requires { ⌜ Liftable (now plane) (line .place) (line .width) (now pairs) t0 t1 t2 t3 (line .round) (line .scale) adds false false ⌝ }
-    ensures { λ _. ⌜ now (plane .exit) ≡ liftedBy (now (plane .entry)) (line .place) (line .width) (now (pairs .entry)) t0 t1 t2 t3 (line .round) (line .scale) adds false ⌝ }
+    ensures { λ _. ⌜
+        now (plane .exit) ≡ liftedBy (now (plane .entry)) (line .place) (line .width) (now (pairs .entry)) t0 t1 t2 t3 (line .round)
+        (line .scale) adds false
+        ⌝ }
 {
     if is_step(t0, t1, t2, t3, adds, 1, 0, 0, 0, false) {
         lift_by(plane, line, pairs, 1, 0, 0, 0, false, false, false);
@@ -226,7 +245,10 @@ fn lift_eight(
     narrow: bool,
 )
     requires { ⌜ Liftable (now plane) (line .place) (line .width) (now pairs) t0 t1 t2 t3 (line .round) (line .scale) adds false narrow ⌝ }
-    ensures { λ _. ⌜ now (plane .exit) ≡ liftedBy (now (plane .entry)) (line .place) (line .width) (now (pairs .entry)) t0 t1 t2 t3 (line .round) (line .scale) adds false ⌝ }
+    ensures { λ _. ⌜
+        now (plane .exit) ≡ liftedBy (now (plane .entry)) (line .place) (line .width) (now (pairs .entry)) t0 t1 t2 t3 (line .round)
+        (line .scale) adds false
+        ⌝ }
 {
     if is_step(t0, t1, t2, t3, adds, 81, -25, 10, -2, true) {
         if narrow {
@@ -260,7 +282,10 @@ fn lift_two(
     narrow: bool,
 )
     requires { ⌜ Liftable (now plane) (line .place) (line .width) (now pairs) t0 t1 t2 t3 (line .round) (line .scale) adds false narrow ⌝ }
-    ensures { λ _. ⌜ now (plane .exit) ≡ liftedBy (now (plane .entry)) (line .place) (line .width) (now (pairs .entry)) t0 t1 t2 t3 (line .round) (line .scale) adds false ⌝ }
+    ensures { λ _. ⌜
+        now (plane .exit) ≡ liftedBy (now (plane .entry)) (line .place) (line .width) (now (pairs .entry)) t0 t1 t2 t3 (line .round)
+        (line .scale) adds false
+        ⌝ }
 {
     if is_step(t0, t1, t2, t3, adds, 1817, 0, 0, 0, false) {
         if narrow {
@@ -312,7 +337,10 @@ fn lift_by(
     narrow: bool,
 )
     requires { ⌜ Liftable (now plane) (line .place) (line .width) (now pairs) t0 t1 t2 t3 (line .round) (line .scale) adds single narrow ⌝ }
-    ensures { λ _. ⌜ now (plane .exit) ≡ liftedBy (now (plane .entry)) (line .place) (line .width) (now (pairs .entry)) t0 t1 t2 t3 (line .round) (line .scale) adds single ⌝ }
+    ensures { λ _. ⌜
+        now (plane .exit) ≡ liftedBy (now (plane .entry)) (line .place) (line .width) (now (pairs .entry)) t0 t1 t2 t3 (line .round)
+        (line .scale) adds single
+        ⌝ }
 {
     let a0 = pairs[0];
     let a1 = pairs[1];

@@ -1,12 +1,14 @@
 -- How the levels of a component share the work plane. These are the code's own forms; no definition of the format rests on them.
-use Prim.Native.Nat.{ℕ, suc, _-_, _*_, _^_, _≤_, _<_}
+use Prim.Native.Nat.{ℕ, suc, _+_, _-_, _*_, _^_, _≤_, _<_}
 use mathlib.Core.Path.{_≡_}
 use mathlib.Core.Bool.{Bool}
 use mathlib.Core.List.{List}
-use lib.IntN.{ℤ}
-use Rattle.base.specs.Fill.{zerosLike}
+use lib.IntN.{ℤ, pos}
+use lib.ListN.{length, getD}
+use Rattle.base.specs.Fill.{zerosLike, fill}
 use Rattle.component.specs.Sizes.{sizeAt}
 use Rattle.component.specs.declared.parameters.Parameters.{Parameters}
+use Rattle.lines.specs.Buffers.{Within}
 use Rattle.lifting.specs.Layout.{Agree}
 use Rattle.lifting.specs.Passes.{Picture, runAll, allNewFit}
 use Rattle.lifting.specs.Planes.{pictureOf}
@@ -28,6 +30,10 @@ pub record Geometry (e : Extent) (area : ℕ) : Type 0 where
   pub whole : sizeAt (e .«low_rows») (e .depth) * e .«padded_width» ≡ area
   pub narrower : e .width ≤ sizeAt (e .«low_columns») (e .depth)
   pub shorter : e .height ≤ sizeAt (e .«low_rows») (e .depth)
+
+-- Planes of the lengths that the sizes ask for.
+abbrev pub Planes : Extent → List ℤ → List ℤ → List ℤ → Type 0
+Planes e work samples coefficients = Geometry e (length work) × (length coefficients ≡ length work) × (e .height * e .width ≤ length samples)
 
 -- The sizes that parameters give.
 unfoldable pub extentOf : Parameters → Extent
@@ -63,6 +69,18 @@ levelInput e work coefficients n =
 -- The same in a frame: its bands around the picture that stands in every other row of it.
 abbrev pub bandsAround : Frame → ℕ → List ℤ → List ℤ → Picture
 bandsAround f padded work coefficients = interleave (f .«band_rows») (f .«band_columns») (pictureOf (2 * f .stride) work) (pictureOf padded coefficients)
+
+-- A work plane with row r of each band put in a frame: HL beside row r of the picture below, LH and HH into the row after it.
+abbrev pub withBandRow : Frame → ℕ → ℕ → List ℤ → List ℤ → List ℤ
+withBandRow f padded r work coefficients =
+    fill
+    (fill work (2 * r * f .stride + f .«band_columns») (f .«band_columns») (λ x. getD coefficients (r * padded + f .«band_columns» + x) (pos 0)))
+    ((2 * r + 1) * f .stride) (2 * f .«band_columns») (λ x. getD coefficients ((f .«band_rows» + r) * padded + x) (pos 0))
+
+-- The numbers in the two rows of pair r are within a size.
+abbrev pub PairWithin : Frame → ℕ → ℕ → List ℤ → Type 0
+PairWithin f r size work =
+    Within work (2 * r * f .stride) (2 * f .«band_columns») size × Within work ((2 * r + 1) * f .stride) (2 * f .«band_columns») size
 
 -- Where the picture of depth n stands in the end: in the work plane; or, where it is the component's, its first rows and columns in the samples,
 -- and the work plane holds zeros.

@@ -1,13 +1,11 @@
 // Document 01, "Synthesis and analysis": moving bands and pictures between planes. Interleave, the low band, and pad removal.
 ghost use mathlib.Core.Path.{_≡_};
-ghost use Prim.Native.Nat.{ℕ, suc, _+_, _*_, _≤_, _<_};
-ghost use lib.IntN.{pos};
-ghost use lib.ListN.{length, getD};
-ghost use Rattle.base.specs.Fill.{fill};
-ghost use Rattle.lines.specs.Buffers.{Within};
+ghost use Prim.Native.Nat.{suc, _+_, _*_, _≤_, _<_};
+ghost use lib.ListN.{length};
+ghost use Rattle.lifting.specs.Reach.{RowsWithin};
 ghost use Rattle.lifting.specs.Planes.{pictureOf};
 ghost use Rattle.lifting.specs.Layout.{Agree, Placed, AgreeOn, halvesPicture};
-ghost use Rattle.transform.specs.Geometry.{bandsAround};
+ghost use Rattle.transform.specs.Geometry.{bandsAround, withBandRow, PairWithin};
 use base::plane;
 use lifting::columns::Frame;
 use lines::measures::copy_measured;
@@ -24,8 +22,10 @@ pub fn interleave_bands(
 ) -> u32
     requires { ⌜ Placed frame (now work) ⌝ }
     requires { ⌜ (2 * frame .«band_columns» ≤ «padded_width») × (2 * frame .«band_rows» * «padded_width» ≤ length (now coefficients)) ⌝ }
-    ensures interleaved { λ _. ⌜ AgreeOn frame (halvesPicture frame (now (work .exit))) (bandsAround frame «padded_width» (now (work .entry)) (now (coefficients .entry))) ⌝ }
-    ensures measured { λ m. ⌜ ((row : ℕ) → row < 2 * frame .«band_rows» → Within (now (work .exit)) (row * frame .stride) (2 * frame .«band_columns») (suc m)) ⌝ }
+    ensures interleaved { λ _. ⌜
+        AgreeOn frame (halvesPicture frame (now (work .exit))) (bandsAround frame «padded_width» (now (work .entry)) (now (coefficients .entry)))
+        ⌝ }
+    ensures measured { λ m. ⌜ RowsWithin frame (suc m) (now (work .exit)) ⌝ }
 {
     let rows = frame.band_rows;
     let mut most = 0u32;
@@ -48,8 +48,8 @@ fn interleave_pair(
 ) -> u32
     requires { ⌜ Placed frame (now work) × (r < frame .«band_rows») ⌝ }
     requires { ⌜ (2 * frame .«band_columns» ≤ «padded_width») × (2 * frame .«band_rows» * «padded_width» ≤ length (now coefficients)) ⌝ }
-    ensures stored { λ _. ⌜ now (work .exit) ≡ fill (fill (now (work .entry)) (2 * r * frame .stride + frame .«band_columns») (frame .«band_columns») (λ x. getD (now (coefficients .entry)) (r * «padded_width» + frame .«band_columns» + x) (pos 0))) ((2 * r + 1) * frame .stride) (2 * frame .«band_columns») (λ x. getD (now (coefficients .entry)) ((frame .«band_rows» + r) * «padded_width» + x) (pos 0)) ⌝ }
-    ensures measured { λ m. ⌜ Within (now (work .exit)) (2 * r * frame .stride) (2 * frame .«band_columns») (suc m) × Within (now (work .exit)) ((2 * r + 1) * frame .stride) (2 * frame .«band_columns») (suc m) ⌝ }
+    ensures stored { λ _. ⌜ now (work .exit) ≡ withBandRow frame «padded_width» r (now (work .entry)) (now (coefficients .entry)) ⌝ }
+    ensures measured { λ m. ⌜ PairWithin frame r (suc m) (now (work .exit)) ⌝ }
 {
     let columns = frame.band_columns;
     let stride = frame.stride;

@@ -2,10 +2,9 @@
 ghost use mathlib.Core.Path.{_≡_};
 ghost use mathlib.Core.Bool.{true};
 ghost use Prim.Native.Nat.{suc, _-_, _*_, _^_, _≤_, _<_};
-ghost use lib.ListN.{length};
 ghost use Rattle.component.specs.Sizes.{sizeAt};
 ghost use Rattle.lifting.specs.Table.{WellFormed};
-ghost use Rattle.transform.specs.Geometry.{Geometry, coefficientPicture, pictureAt, firstBadAt, levelInput, levelPicture, levelNumbersFit, Stands};
+ghost use Rattle.transform.specs.Geometry.{Planes, coefficientPicture, pictureAt, firstBadAt, levelInput, levelPicture, levelNumbersFit, Stands};
 use crate::bands::copy_rows;
 use crate::bands::interleave_bands;
 use base::plane::zero;
@@ -37,7 +36,7 @@ pub fn synthesise_levels(
     filter: LiftingFilter,
     n: usize,
 ) -> usize
-    requires { ⌜ Geometry extent (length (now work)) × (length (now coefficients) ≡ length (now work)) × (extent .height * extent .width ≤ length (now samples)) ⌝ }
+    requires { ⌜ Planes extent (now work) (now samples) (now coefficients) ⌝ }
     requires { ⌜ WellFormed filter × (n ≤ extent .depth) ⌝ }
     ensures told { λ r. ⌜ r ≡ firstBadAt filter extent (now (coefficients .entry)) n ⌝ }
     ensures done { λ r. ⌜
@@ -62,7 +61,7 @@ pub fn synthesise_levels(
 
 // Puts the low band, which is the picture of depth 0, where it stands.
 fn put_low_band(work: &mut [i32], samples: &mut [i32], coefficients: &[i32], extent: Extent)
-    requires { ⌜ Geometry extent (length (now work)) × (length (now coefficients) ≡ length (now work)) × (extent .height * extent .width ≤ length (now samples)) ⌝ }
+    requires { ⌜ Planes extent (now work) (now samples) (now coefficients) ⌝ }
     ensures { λ _. ⌜
         Stands extent 0 (coefficientPicture extent (now (coefficients .entry))) (now (work .entry)) (now (work .exit)) (now (samples .exit))
         ⌝ }
@@ -96,11 +95,12 @@ fn synthesise_level(
     filter: LiftingFilter,
     below: usize,
 ) -> bool
-    requires { ⌜ Geometry extent (length (now work)) × (length (now coefficients) ≡ length (now work)) × (extent .height * extent .width ≤ length (now samples)) ⌝ }
+    requires { ⌜ Planes extent (now work) (now samples) (now coefficients) ⌝ }
     requires { ⌜ WellFormed filter × (suc below ≤ extent .depth) ⌝ }
     ensures told { λ r. ⌜ r ≡ levelNumbersFit filter extent below (levelInput extent (now (work .entry)) (now (coefficients .entry)) below) ⌝ }
     ensures done { λ r. ⌜
-        (r ≡ true → Stands extent (suc below) (levelPicture filter extent below (levelInput extent (now (work .entry)) (now (coefficients .entry)) below))
+        (r ≡ true → Stands extent (suc below)
+        (levelPicture filter extent below (levelInput extent (now (work .entry)) (now (coefficients .entry)) below))
         (now (work .entry)) (now (work .exit)) (now (samples .exit)))
         ⌝ }
 {

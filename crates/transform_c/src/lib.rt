@@ -59,7 +59,10 @@ pub extern "C" fn kafsillun_synthesise(
     work: &mut [i32],
     samples: &mut [i32],
 ) -> KafsillunAnswer
-    ensures { λ r. ⌜ outcome (answerOf r) (now (work .exit)) (now (samples .exit)) ≡ synthesised (parametersOf p) (now (coefficients .entry)) (now (work .entry)) (now (samples .entry)) ⌝ }
+    ensures { λ r. ⌜
+        outcome (answerOf r) (now (work .exit)) (now (samples .exit))
+        ≡ synthesised (parametersOf p) (now (coefficients .entry)) (now (work .entry)) (now (samples .entry))
+        ⌝ }
 {
     let answer = transform::synthesise(parameters_of(p), coefficients, work, samples);
     answer_of(answer)

@@ -6,16 +6,16 @@ use native.Mathlib.Omega.{arith}
 use borrow.Author.Needs.{needs}
 use borrow.Author.Tests.{lt-ltb, le-ltb}
 use Rattle.tap_pairs.specs.Pairs.{pairPlace}
-use Rattle.tap_pairs.proofs.PairingLaws.{held-below}
+use Rattle.tap_pairs.proofs.PairingLaws.{clamped-below}
 use Rattle.tap_pairs.proofs.pair_place.Statement.{statement}
 use Rattle.tap_pairs.proofs.pair_place.Tie as tie
 
 -- the pair that is read
-first : (c : tie.After-held-pair) → let s = c .before .before in c .held-pair .result < (s .args .count + 1) / 2
-first c = rw (c .held-pair .ensures) (held-below ((c .before .before .args .count + 1) / 2) (c .before .before .args .j) (omega arith))
+first : (c : tie.After-pair-or-middle) → let s = c .before .before in c .pair-or-middle .result < (s .args .count + 1) / 2
+first c = rw (c .pair-or-middle .ensures) (clamped-below ((c .before .before .args .count + 1) / 2) (c .before .before .args .j) (omega arith))
 
-second : (c : tie.After-held-pair2) → let s = c .before .before in c .held-pair2 .result < (s .args .count + 1) / 2
-second c = rw (c .held-pair2 .ensures) (held-below ((c .before .before .args .count + 1) / 2) (c .before .before .args .j - 4) (omega arith))
+second : (c : tie.After-pair-or-middle2) → let s = c .before .before in c .pair-or-middle2 .result < (s .args .count + 1) / 2
+second c = rw (c .pair-or-middle2 .ensures) (clamped-below ((c .before .before .args .count + 1) / 2) (c .before .before .args .j - 4) (omega arith))
 
 add-half : tie.Need-add-half
 add-half c = search needs
@@ -23,8 +23,8 @@ add-half c = search needs
 sub-result : tie.Need-sub-result
 sub-result c = search needs
 
-held-pair-requires : tie.Need-held-pair-requires
-held-pair-requires c κs = search needs
+pair-or-middle-requires : tie.Need-pair-or-middle-requires
+pair-or-middle-requires c κs = search needs
 
 sub-result-2 : tie.Need-sub-result-2
 sub-result-2 c = omega (arith, first c)
@@ -37,13 +37,13 @@ element-copy-out-result c = search needs
 
 returns : tie.Need-returns
 unfolding pairPlace
-returns c = rw (lt-ltb _ _ (c .before .before .if1 .taken), c .before .held-pair .ensures) refl
+returns c = rw (lt-ltb _ _ (c .before .before .if1 .taken), c .before .pair-or-middle .ensures) refl
 
 sub-result-3 : tie.Need-sub-result-3
 sub-result-3 c = search needs
 
-held-pair-requires-2 : tie.Need-held-pair-requires-2
-held-pair-requires-2 c κs = search needs
+pair-or-middle-requires-2 : tie.Need-pair-or-middle-requires-2
+pair-or-middle-requires-2 c κs = search needs
 
 add-result : tie.Need-add-result
 add-result c = omega (arith, second c)
@@ -56,7 +56,7 @@ element-copy-out-result-2 c = omega (arith, second c)
 
 returns-2 : tie.Need-returns-2
 unfolding pairPlace
-returns-2 c = rw (le-ltb _ _ (c .before .before .if1 .left), c .before .held-pair2 .ensures) refl
+returns-2 c = rw (le-ltb _ _ (c .before .before .if1 .left), c .before .pair-or-middle2 .ensures) refl
 
 pub pair-place-spec : {M : Type 1} → statement M
 pair-place-spec =
@@ -64,13 +64,13 @@ pair-place-spec =
     (tie.spec
     add-half
     sub-result
-    held-pair-requires
+    pair-or-middle-requires
     sub-result-2
     mul-result
     element-copy-out-result
     returns
     sub-result-3
-    held-pair-requires-2
+    pair-or-middle-requires-2
     add-result
     mul-result-2
     element-copy-out-result-2

@@ -1,5 +1,5 @@
 -- `lifting::rows::lift_half` meets its contract: the sums are taken over the half that is read with its ends repeated, as the places that
--- are held say, and lift the other half.
+-- are clamped say, and lift the other half.
 -- Assumes nothing.
 use mathlib.Core.List.{List}
 use Prim.Native.Nat.{_+_}

@@ -8,7 +8,7 @@ use lib.ListN.{length, getD, length-set}
 use mir.Syntax.{w32}
 use mir.Val.{toZ}
 use Rattle.base.proofs.Ranges.{back}
-use Rattle.lines.proofs.BufferLaws.{ends, ends-none, ends-more, ends-held, ends-kept}
+use Rattle.lines.proofs.BufferLaws.{ends, ends-none, ends-more, ends-clamped, ends-kept}
 use Rattle.lines.proofs.buffers.extend.Statement.{statement}
 use Rattle.lines.proofs.buffers.extend.Tie as tie
 
@@ -92,7 +92,7 @@ returns c =
       back w32 (getD halves (args .base + args .half + 3) (pos 0)) (head .before .last .given),
     )
     in (
-      λ s h. rw all (ends-held halves (args .base) (args .half) s (start .pre .1) (omega arith) h),
+      λ s h. rw all (ends-clamped halves (args .base) (args .half) s (start .pre .1) (omega arith) h),
       λ p outside. rw all (ends-kept halves (args .base) (args .half) _ _ p outside),
     )
 
