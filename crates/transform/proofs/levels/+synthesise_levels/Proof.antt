@@ -15,8 +15,8 @@ use Rattle.component.specs.Sizes.{sizeAt}
 use Rattle.lifting.specs.Filters.{Filter}
 use Rattle.lifting.specs.Passes.{Picture}
 use Rattle.lifting.specs.Table.{filterFrom}
-use Rattle.transform.specs.Geometry.{Geometry, Stands, coefficientPicture, workPicture, pictureAt, firstBadAt, levelInput, levelPicture}
-use Rattle.transform.specs.Synthesis.{synthesis, firstBadLevel}
+use Rattle.transform.specs.Geometry.{Geometry, Stands, coefficientPicture, workPicture, pictureAt, firstBadAt, levelInput, levelPicture, levelNumbersFit}
+use Rattle.transform.specs.Synthesis.{synthesis, levelFits, firstBadLevel}
 use Rattle.transform.proofs.Recursion.{bad-below, bad-none, bad-here, level-fits, level-picture}
 use Rattle.transform.proofs.levels.synthesise_levels.Reads as levels
 use Rattle.transform.proofs.levels.synthesise_levels.Kinds as levels-kinds
@@ -71,6 +71,21 @@ module _ (t : ℕ) where
     abbrev below : ℕ
     below = c .args .n - 1
 
+  -- the picture below stands in the work plane
+  below-deep : (c : Entry) → suc (below c) ≡ c .args .n → below c < c .args .extent .depth
+  below-deep c some = omega (arith, c .pre .1 .1 .1)
+
+  -- on it the test of the level's numbers is the definition's
+  level-test :
+      (c : Entry) → suc (below c) ≡ c .args .n → (rest samples : List ℤ)
+      → Stands (c .args .extent) (below c) (picture c (below c)) (now (c .args .work)) rest samples
+      → levelNumbersFit (c .args .filter) (c .args .extent) (below c) (levelInput (c .args .extent) rest (now (c .args .coefficients)) (below c))
+      ≡ levelFits (filter c) (rows c) (columns c) (coefficients c) (below c)
+  level-test c some rest samples stood =
+      let g = c .pre .1 .0 .0 in
+      level-fits (filter c) (rows c) (columns c) (g .rows-least) (g .columns-least) (coefficients c) (below c) (workPicture (c .args .extent) (below c) rest)
+      (stood .in-work (below-deep c some))
+
   -- a level's picture on the picture below is the picture of the next depth
   next-stands :
       (c : Entry) (some : suc (below c) ≡ c .args .n) (rest work samples : List ℤ)
@@ -80,8 +95,7 @@ module _ (t : ℕ) where
       → Stands (c .args .extent) (c .args .n) (picture c (c .args .n)) (now (c .args .work)) work last
   next-stands c some rest work samples stood long last stands =
       let g = c .pre .1 .0 .0 in
-      let deep : below c < c .args .extent .depth = omega (arith, c .pre .1 .1 .1) in
-      let same = level-picture (filter c) (rows c) (columns c) (g .rows-least) (g .columns-least) (coefficients c) (below c) (workPicture (c .args .extent) (below c) rest) (stood .in-work deep) in
+      let same = level-picture (filter c) (rows c) (columns c) (g .rows-least) (g .columns-least) (coefficients c) (below c) (workPicture (c .args .extent) (below c) rest) (stood .in-work (below-deep c some)) in
       let built = same _ (λ row x r i. refl) in
       subst (λ (k : ℕ). Stands (c .args .extent) k (picture c k) (now (c .args .work)) work last) some
       (record {
@@ -249,13 +263,11 @@ module _ (t : ℕ) where
       let start = c .before .before .before .before .before .before .before .before .before .before .before .before .before .before .before in
       let g = start .pre .1 .0 .0 in
       let up : suc (below start) ≡ start .args .n = omega (arith, c .before .before .before .before .before .before .before .before .before .before .before .before .before .before .if1 .left) in
-      let deep : below start < start .args .extent .depth = omega (arith, start .pre .1 .1 .1, c .before .before .before .before .before .before .before .before .before .before .before .before .before .before .if1 .left) in
       let rest = c .before .before .before .before .before .before .before .before .before .before .synthesise-levels in
       let level = c .before .before .before .synthesise-level in
       let none = c .before .before .before .before .before .before .before .if2 .left in
       let stood = rest .ensures .1 none in
-      let fits =
-      level-fits (filter start) (rows start) (columns start) (g .rows-least) (g .columns-least) (coefficients start) (below start) (workPicture (start .args .extent) (below start) (rest .last .0)) (stood .in-work deep) in (
+      let fits = level-test start up (rest .last .0) (rest .last .1 .0) stood in (
         subst (λ (k : ℕ). 0 ≡ first-bad start k) up
             (bad-none (filter start) (rows start) (columns start) (g .rows-least) (g .columns-least) (coefficients start) (below start) (sym (rest .ensures .0) ∙ none)
             (sym fits ∙ sym (level .ensures .0) ∙ c .if3 .taken)),
@@ -294,13 +306,11 @@ module _ (t : ℕ) where
       let start = c .before .before .before .before .before .before .before .before .before .before .before .before .before .before .before in
       let g = start .pre .1 .0 .0 in
       let up : suc (below start) ≡ start .args .n = omega (arith, c .before .before .before .before .before .before .before .before .before .before .before .before .before .before .if1 .left) in
-      let deep : below start < start .args .extent .depth = omega (arith, start .pre .1 .1 .1, c .before .before .before .before .before .before .before .before .before .before .before .before .before .before .if1 .left) in
       let rest = c .before .before .before .before .before .before .before .before .before .before .synthesise-levels in
       let level = c .before .before .before .synthesise-level in
       let none = c .before .before .before .before .before .before .before .if2 .left in
       let stood = rest .ensures .1 none in
-      let fits =
-      level-fits (filter start) (rows start) (columns start) (g .rows-least) (g .columns-least) (coefficients start) (below start) (workPicture (start .args .extent) (below start) (rest .last .0)) (stood .in-work deep) in (
+      let fits = level-test start up (rest .last .0) (rest .last .1 .0) stood in (
         subst (λ (k : ℕ). k ≡ first-bad start k) up
             (bad-here (filter start) (rows start) (columns start) (g .rows-least) (g .columns-least) (coefficients start) (below start) (sym (rest .ensures .0) ∙ none)
             (sym fits ∙ sym (level .ensures .0) ∙ c .if3 .left)),
