@@ -1,10 +1,9 @@
 -- `component::partition::part_start_by` meets its contract: the product is small enough for the reciprocal to divide by the count.
 -- Assumes nothing.
-use mathlib.Core.Path.{_≡_, ap, _∙_}
-use Prim.Native.Nat.{ℕ, _*_, _/_, _≤_, _<_}
+use mathlib.Core.Path.{ap, _∙_}
+use Prim.Native.Nat.{ℕ, _*_, _/_, _≤_}
 use native.Mathlib.Nat.{mul-le-mul}
 use native.Mathlib.Omega.{arith}
-use borrow.Author.Needs.{needs}
 use Rattle.base.proofs.Reciprocals.{reciprocal-divides}
 use Rattle.component.specs.Partition.{partStart}
 use Rattle.component.specs.Reciprocal.{reciprocalOf}

@@ -6,7 +6,6 @@ use mathlib.Core.Bool.{true, false, false≢true}
 use mathlib.Core.List.{[], map}
 use Prim.Native.Nat.{_-_, _*_, _≤_, _<_}
 use native.Mathlib.Omega.{arith}
-use borrow.Author.Needs.{needs}
 use borrow.Author.Tests.{not-true, not-false}
 use lib.ListN.{length, getD, take, length-map, List·getD-map}
 use lib.Seq.{take-all}
