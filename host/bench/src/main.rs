@@ -1,6 +1,6 @@
 //! The command: measures, and prints the tables.
 
-use bench::contest::Effort;
+use bench::decoders::Effort;
 use bench::instructions::{valgrind_version, CountReport, Counts, PROGRAM};
 use bench::libavcodec::Libavcodec;
 use bench::tables::{components, counted_components, Tables};
@@ -89,11 +89,11 @@ fn count_instructions(valgrind: &str) -> Result<(), String> {
     let this = std::env::current_exe().map_err(|error| error.to_string())?;
     let program = this.with_file_name(PROGRAM);
     let mut rows = Vec::new();
-    for material in counted_components()? {
-        let wavelet = material.parameters.wavelet;
-        let (index, codeblocks) = (material.index, material.codeblocks);
+    for component in counted_components()? {
+        let wavelet = component.parameters.wavelet;
+        let (index, codeblocks) = (component.index, component.codeblocks);
         eprintln!("counting: wavelet {wavelet}, index {index}, codeblocks {codeblocks}");
-        rows.push(Counts::of(&material, &program)?);
+        rows.push(Counts::of(&component, &program)?);
     }
     println!("Counted by {valgrind}, callgrind.\n");
     print!("{}", CountReport(rows));

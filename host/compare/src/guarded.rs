@@ -1,11 +1,11 @@
-//! Memory with guard zones around the part that a job is lent.
+//! Memory with guard zones around the part that a job is given.
 
-use reference::random::Random;
+use vectors::random::Random;
 
 /// The entries of each guard zone.
 const GUARD: usize = 24;
 
-/// A part to lend, between two guard zones.
+/// A part to be given to a job, between two guard zones.
 #[derive(Clone, Debug, PartialEq, Eq)]
 pub struct Guarded<T> {
     memory: Vec<T>,
@@ -47,12 +47,12 @@ impl<T: Entry> Guarded<T> {
         guarded
     }
 
-    /// The part to lend.
+    /// The part to give.
     pub fn part(&self) -> &[T] {
         &self.memory[self.start..self.memory.len() - GUARD]
     }
 
-    /// The part to lend, to be written.
+    /// The part to give, to be written.
     pub fn part_mut(&mut self) -> &mut [T] {
         let end = self.memory.len() - GUARD;
         &mut self.memory[self.start..end]
@@ -82,11 +82,11 @@ mod tests {
         let before = Guarded::holding(&mut random, &[1, 2, 3]);
         assert_eq!(before.part(), [1, 2, 3]);
         assert_eq!(before.difference(&before.clone()), None);
-        for place in 0..before.memory.len() {
+        for index in 0..before.memory.len() {
             let mut after = before.clone();
-            after.memory[place] ^= 1;
+            after.memory[index] ^= 1;
             let (found, old, new) = before.difference(&after).unwrap();
-            assert_eq!(found, place as isize - before.start as isize);
+            assert_eq!(found, index as isize - before.start as isize);
             assert_eq!(old ^ new, 1);
         }
         let empty: Guarded<u8> = Guarded::rubbish(&mut random, 0);

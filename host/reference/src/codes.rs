@@ -101,9 +101,9 @@ impl BitWriter {
     /// codes").
     pub fn number(&mut self, number: u64) {
         let v = u128::from(number) + 1;
-        for place in (0..v.ilog2()).rev() {
+        for bit in (0..v.ilog2()).rev() {
             self.bit(false);
-            self.bit(v >> place & 1 == 1);
+            self.bit(v >> bit & 1 == 1);
         }
         self.bit(true);
     }

@@ -2,13 +2,12 @@
 
 use crate::picture;
 use ffmpeg::stream::{BitDepth, Stream, COMPONENTS};
-use reference::encode::{
-    encode_body, picture_coefficients, quantise_plane, EncodeOptions, Rounding, SubbandOptions,
-};
+use reference::encode::{encode_body, quantise_plane, EncodeOptions, Rounding, SubbandOptions};
 use reference::params::{sample_area, subbands};
-use reference::pieces::{parameters, with_codeblocks};
 use reference::Parameters;
 use std::fmt::{self, Display, Formatter};
+use vectors::pictures::picture_coefficients;
+use vectors::pieces::{plain, with_codeblocks};
 
 /// The seed of the picture.
 const SEED: u64 = 1;
@@ -145,7 +144,7 @@ impl Plan {
 }
 
 /// An encoded component.
-pub struct Material {
+pub struct Component {
     pub parameters: Parameters,
     /// The codeblocks of its subbands.
     pub codeblocks: Codeblocks,
@@ -156,10 +155,10 @@ pub struct Material {
     pub body: Vec<u8>,
 }
 
-impl Material {
+impl Component {
     /// The components of a plan, one for each rate. Codeblocks do not change the index.
-    pub fn of(plan: Plan, rates: &[Rate]) -> Vec<Material> {
-        let p = parameters(plan.width, plan.height, plan.depth, plan.wavelet, true);
+    pub fn of(plan: Plan, rates: &[Rate]) -> Vec<Component> {
+        let p = plain(plan.width, plan.height, plan.depth, plan.wavelet, true);
         let samples = picture::samples(plan.width, plan.height, SEED);
         let coefficients = picture_coefficients(&p, &samples);
         let encode = |&rate: &Rate| {
@@ -184,13 +183,13 @@ impl Material {
         8.0 * self.body.len() as f64 / self.samples() as f64
     }
 
-    /// A sequence header and a picture of 8 bits that has this component thrice, and where the
+    /// A sequence header and a picture of 8 bits that has this component three times, and where the
     /// picture's number stands.
     pub fn packet(&self) -> (Vec<u8>, usize) {
         let p = &self.parameters;
         let mut stream = Stream::new(p.width, p.height, BitDepth::Eight);
-        let number_place = stream.add_picture(0, p, [&self.body; COMPONENTS]);
-        (stream.bytes().to_vec(), number_place)
+        let number_offset = stream.add_picture(0, p, [&self.body; COMPONENTS]);
+        (stream.bytes().to_vec(), number_offset)
     }
 }
 
@@ -198,8 +197,8 @@ impl Material {
 /// or the one before it.
 fn nearest_index(p: &Parameters, coefficients: &[i32], rate: Rate) -> u32 {
     let miss = |index| {
-        let material = encode_with(p, coefficients, Codeblocks::ONE, rate, index);
-        material.bits_a_sample() - rate.bits_a_sample
+        let component = encode_with(p, coefficients, Codeblocks::ONE, rate, index);
+        component.bits_a_sample() - rate.bits_a_sample
     };
     let mut index = rate.first_index;
     let mut above = miss(index);
@@ -225,7 +224,7 @@ fn encode_with(
     codeblocks: Codeblocks,
     rate: Rate,
     index: u32,
-) -> Material {
+) -> Component {
     let p = with_codeblocks(p, codeblocks.across, codeblocks.down);
     let indices = vec![index; subbands(&p).len()];
     let quantised = quantise_plane(&p, coefficients, &indices, Rounding::Floor);
@@ -235,7 +234,7 @@ fn encode_with(
         ..SubbandOptions::default()
     };
     let body = encode_body(&p, &quantised, &EncodeOptions::uniform(&p, options));
-    Material {
+    Component {
         parameters: p,
         codeblocks,
         rate,
