@@ -6,6 +6,7 @@ use bench::libavcodec::Libavcodec;
 use bench::tables::{components, counted_components, Tables};
 use std::process::ExitCode;
 use std::time::Instant;
+use vectors::command_line;
 
 const USAGE: &str = "usage: bench [--quick]
        bench --instructions
@@ -100,31 +101,31 @@ fn count_instructions(valgrind: &str) -> Result<(), String> {
     Ok(())
 }
 
+/// What the command line asks for.
+enum Request {
+    Measure(Passes),
+    CountInstructions { valgrind: String },
+}
+
+/// Reads the command line, or says what is wrong with it.
+fn read_request(words: &[&str]) -> Result<Request, String> {
+    match words {
+        [] => Ok(Request::Measure(FULL)),
+        ["--quick"] => Ok(Request::Measure(QUICK)),
+        ["--instructions"] => match valgrind_version() {
+            Some(valgrind) => Ok(Request::CountInstructions { valgrind }),
+            None => Err("valgrind is not installed".to_string()),
+        },
+        _ => Err("no such option, or one too many".to_string()),
+    }
+}
+
 /// Runs the command.
 fn main() -> ExitCode {
-    let words: Vec<String> = std::env::args_os()
-        .skip(1)
-        .map(|word| word.to_string_lossy().into_owned())
-        .collect();
-    let words: Vec<&str> = words.iter().map(String::as_str).collect();
-    let result = match words.as_slice() {
-        [] => run(FULL),
-        ["--quick"] => run(QUICK),
-        ["--instructions"] => match valgrind_version() {
-            Some(version) => count_instructions(&version),
-            None => {
-                eprintln!("bench: valgrind is not installed");
-                return ExitCode::from(2);
-            }
-        },
-        ["--help" | "-h"] => {
-            print!("{USAGE}");
-            return ExitCode::SUCCESS;
-        }
-        _ => {
-            eprint!("bench: a wrong command line\n\n{USAGE}");
-            return ExitCode::from(2);
-        }
+    let result = match command_line::read("bench", USAGE, read_request) {
+        Ok(Request::Measure(passes)) => run(passes),
+        Ok(Request::CountInstructions { valgrind }) => count_instructions(&valgrind),
+        Err(status) => return status,
     };
     match result {
         Ok(()) => ExitCode::SUCCESS,
