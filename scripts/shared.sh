@@ -76,47 +76,51 @@ elapsed() {
     echo "$((seconds / 60)) min $((seconds % 60)) s"
 }
 
+# moving_line TEXT: TEXT in place of the line that the cursor is on, cut where the terminal ends
+moving_line() {
+    local width
+    width=$(tput cols 2>/dev/null) || width=80
+    printf '\r\033[K%s' "${1:0:width - 1}" >&2
+}
+
 # follow CRATE START LOG: reads what rt prints on the way to CRATE, keeps it in LOG, and shows how far it has come: on a terminal as one
 # line that moves, elsewhere as a line for each crate that was proved. A crate that has not changed is counted and not shown. rt prints
 # the lines of crates that run side by side when the last of them has ended; target/log/NAME.say is there from the start of NAME on.
 follow() {
-    local start=$2 log=$3 crates width status line='' part='' proved=' ' count=0 total moves='' running crate
+    local start=$2 log=$3 crates total count=0 proved=' ' running crate line='' part status terminal=''
     crates=$(crates_of "$1")
     total=$(wc -w <<<"$crates")
-    [ ! -t 2 ] || moves=yes
+    [ ! -t 2 ] || terminal=yes
     while :; do
         IFS= read -r -t 1 part
         status=$?
         line+=$part
         if [ "$status" -eq 0 ]; then
             printf '%s\n' "$line" >>"$log"
-            if [[ $line =~ ^'rt: '([A-Za-z0-9_]+)' proved ('(.*)')'$ ]] && [[ $proved != *" ${BASH_REMATCH[1]} "* ]]; then
-                proved+="${BASH_REMATCH[1]} "
+            if [[ $line =~ ^'rt: '([A-Za-z0-9_]+)' proved ('(.*)')'$ && $proved != *" ${BASH_REMATCH[1]} "* ]]; then
+                crate=${BASH_REMATCH[1]}
+                proved+="$crate "
                 count=$((count + 1))
-                [ -n "$moves" ] || [[ ${BASH_REMATCH[2]} = unchanged* ]] || say "$count of $total proved: ${BASH_REMATCH[1]} (${BASH_REMATCH[2]})"
+                [ -n "$terminal" ] || [[ ${BASH_REMATCH[2]} = unchanged* ]] || say "$count of $total proved: $crate (${BASH_REMATCH[2]})"
             fi
             line=''
-            # More lines may be waiting; the display can wait for them.
-            continue
         elif [ "$status" -le 128 ]; then
             break
+        elif [ -n "$terminal" ]; then
+            # A second without a line.
+            running=''
+            for crate in $crates; do
+                if [[ $proved != *" $crate "* && $top/target/log/$crate.say -nt $log.start ]]; then running+=", $crate"; fi
+            done
+            moving_line "$name: proving $((count < total ? count + 1 : total)) of $total${running/, /: } ($(elapsed "$start"))"
         fi
-        [ -n "$moves" ] || continue
-        running=''
-        for crate in $crates; do
-            if [ "$top/target/log/$crate.say" -nt "$log.start" ] && [[ $proved != *" $crate "* ]]; then running+=", $crate"; fi
-        done
-        width=$(tput cols 2>/dev/null) || width=80
-        part="$name: proving $((count < total ? count + 1 : total)) of $total${running/, /: } ($(elapsed "$start"))"
-        printf '\r\033[K%s' "${part:0:width - 1}" >&2
-        part=''
     done
-    [ -z "$moves" ] || printf '\r\033[K' >&2
+    [ -z "$terminal" ] || moving_line ""
 }
 
-# rt_shown CRATE START LOG WORDS..: runs rt at the top, on the way to CRATE, and shows how far it has come
+# rt_shown CRATE START LOG WORDS..: runs rt at the top, on the way to CRATE, and shows how far it has come. The standard input is not for rt.
 rt_shown() {
-    (cd "$top" && exec rt "${@:4}") 2>&1 | follow "$1" "$2" "$3"
+    (cd "$top" && exec rt "${@:4}") </dev/null 2>&1 | follow "$1" "$2" "$3"
     return "${PIPESTATUS[0]}"
 }
 
@@ -142,7 +146,8 @@ build() {
         say "the $kind $crate could not be built"
         exit 2
     fi
-    touch "$(built "$kind" "$crate")"
+    # What was changed while this ran is newer than what was built.
+    touch -r "$log.start" "$(built "$kind" "$crate")"
     say "the $kind $crate is proved and built ($(elapsed "$start"))"
 }
 
@@ -159,7 +164,11 @@ build_if_older() {
     is_current "$(built "$1" "$2")" "$2" || build "$1" "$2"
 }
 
-# build_library: the archive of the whole decoder, for the Rust side. KAFSILLUN_LIB_DIR may name a folder that has it already.
-build_library() {
+# build_rust PACKAGE: the program of a package of the Rust side, over the archive of the whole decoder. KAFSILLUN_LIB_DIR may name a folder
+# that has that archive already.
+build_rust() {
+    needs cargo
     [ -n "${KAFSILLUN_LIB_DIR-}" ] || build_if_older archive kafsillun_c
+    [ -x "$top/host/target/release/$1" ] || say "compiling the Rust side; the first time takes a minute"
+    (cd "$top/host" && cargo build --release --offline --quiet -p "$1") || { say "$1 could not be built"; exit 2; }
 }

@@ -45,7 +45,7 @@ pub const FULL_SIZE: (u32, u32) = (1920, 1080);
 pub const WAVELETS: [u32; 4] = [0, 1, 5, 6];
 
 /// The rates that each is measured at.
-pub const RATES: [Rate; 2] = [rate(1.1, 14), rate(3.7, 4)];
+pub const RATES: [Rate; 2] = [about(1.1, 14), about(3.7, 4)];
 
 /// The wavelet of the tables of sizes and rates.
 pub const ONE_WAVELET: u32 = 1;
@@ -55,7 +55,7 @@ pub const OTHER_SIZES: [(u32, u32); 5] =
     [(64, 48), (240, 136), (480, 270), (960, 540), (4096, 2160)];
 
 /// The other rates that are measured at the full size.
-pub const OTHER_RATES: [Rate; 3] = [rate(0.5, 22), rate(2.0, 10), rate(6.0, 0)];
+pub const OTHER_RATES: [Rate; 3] = [about(0.5, 22), about(2.0, 10), about(6.0, 0)];
 
 /// The codeblocks of the table of many codeblocks, at the full size; the first are one.
 pub const MANY_CODEBLOCKS: [Codeblocks; 7] = [
@@ -69,7 +69,7 @@ pub const MANY_CODEBLOCKS: [Codeblocks; 7] = [
 ];
 
 /// The rate that they are measured at.
-pub const MANY_CODEBLOCKS_RATE: Rate = rate(1.8, 10);
+pub const MANY_CODEBLOCKS_RATE: Rate = about(1.8, 10);
 
 /// The size whose instructions are counted.
 pub const COUNTED_SIZE: (u32, u32) = (480, 270);
@@ -81,8 +81,8 @@ pub const COUNTED_CODEBLOCKS: [Codeblocks; 3] = [
     Codeblocks::written_out(64, 64),
 ];
 
-/// A rate, and the index to try first.
-const fn rate(bits_a_sample: f64, first_index: u32) -> Rate {
+/// A rate to come near to, and the index to try first.
+const fn about(bits_a_sample: f64, first_index: u32) -> Rate {
     Rate {
         bits_a_sample,
         first_index,

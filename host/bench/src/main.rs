@@ -80,7 +80,7 @@ fn run(passes: Passes) -> Result<(), String> {
         passes.count * passes.effort.reference_rounds
     );
     println!("Planes are not cleared between turns: what a decoder clears is in its time.\n");
-    print!("{}", tables.report());
+    print!("{}", tables.to_report());
     println!("\n{:.0} s in all", start.elapsed().as_secs_f64());
     Ok(())
 }

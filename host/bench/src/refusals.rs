@@ -81,8 +81,8 @@ impl Call {
         decoder(&self.parameters, self.job, buffers)
     }
 
-    /// The call, to be timed.
-    fn timed(&mut self, effort: Effort) -> Timed<'_> {
+    /// The turns of the call.
+    fn turns(&mut self, effort: Effort) -> Timed<'_> {
         Timed::repeated(1, self.runs, effort.rounds, move || {
             assert_eq!(self.run(proved), self.answer, "a call that was checked");
         })
@@ -167,7 +167,7 @@ pub fn calls(component: &Component) -> Result<Vec<Call>, String> {
 
 /// Microseconds of each call.
 pub fn measure(calls: Vec<&mut Call>, effort: Effort) -> Vec<f64> {
-    let timed = calls.into_iter().map(|call| call.timed(effort));
+    let timed = calls.into_iter().map(|call| call.turns(effort));
     let mut timed: Vec<Timed> = timed.collect();
     take_turns(&mut timed);
     timed.iter().map(|c| 1e6 * c.seconds()).collect()

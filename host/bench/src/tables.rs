@@ -185,7 +185,7 @@ impl Tables<'_> {
     }
 
     /// The report after the last pass.
-    pub fn report(&self) -> Report {
+    pub fn to_report(&self) -> Report {
         let exact = self.exact.iter();
         let refusals = self.refusals.iter();
         Report {

@@ -143,7 +143,7 @@ impl Memory {
     }
 
     /// The parts that a job is given.
-    fn buffers(&mut self) -> Buffers<'_> {
+    fn parts(&mut self) -> Buffers<'_> {
         Buffers {
             bytes: self.bytes.part(),
             coefficients: self.coefficients.part_mut(),
@@ -153,7 +153,7 @@ impl Memory {
     }
 
     /// The first difference from the reference's memory.
-    fn difference(&self, reference: &Memory) -> Option<String> {
+    fn first_difference(&self, reference: &Memory) -> Option<String> {
         let planes = [
             ("coefficients", &self.coefficients, &reference.coefficients),
             ("work", &self.work, &reference.work),
@@ -172,7 +172,7 @@ fn difference_in<T: Entry + PartialEq + fmt::Display>(
     ours: &Guarded<T>,
     theirs: &Guarded<T>,
 ) -> Option<String> {
-    let (index, our_value, their_value) = ours.difference(theirs)?;
+    let (index, our_value, their_value) = ours.first_difference(theirs)?;
     let length = ours.part().len();
     let zone = if (0..length as isize).contains(&index) {
         ""
@@ -194,8 +194,8 @@ fn check_job(
     let p = &case.parameters;
     let mut ours = Memory::new(case, job, random);
     let mut theirs = ours.clone();
-    let our_answer = decoder(p, job, ours.buffers());
-    let their_answer = reference(p, job, theirs.buffers());
+    let our_answer = decoder(p, job, ours.parts());
+    let their_answer = reference(p, job, theirs.parts());
     if our_answer != their_answer {
         let what = format!(
             "the answer is status {} place {}, the reference's status {} place {}",
@@ -203,7 +203,7 @@ fn check_job(
         );
         return Err(Difference { job, what });
     }
-    match ours.difference(&theirs) {
+    match ours.first_difference(&theirs) {
         Some(what) => Err(Difference { job, what }),
         None => Ok(our_answer),
     }
@@ -252,7 +252,7 @@ pub fn results(case: &Case, decoder: Decoder) -> [Outcome; 3] {
     let mut random = rubbish_of(case);
     Job::ALL.map(|job| {
         let mut memory = Memory::new(case, job, &mut random);
-        let answer = decoder(&case.parameters, job, memory.buffers());
+        let answer = decoder(&case.parameters, job, memory.parts());
         let planes = [
             ("coefficients", &memory.coefficients, job != Job::Synthesise),
             ("work", &memory.work, job != Job::Unpack),

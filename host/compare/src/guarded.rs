@@ -60,7 +60,7 @@ impl<T: Entry> Guarded<T> {
 
     /// The first entry of the whole memory that differs, counted from the part's start, and both
     /// values.
-    pub fn difference(&self, other: &Guarded<T>) -> Option<(isize, T, T)>
+    pub fn first_difference(&self, other: &Guarded<T>) -> Option<(isize, T, T)>
     where
         T: PartialEq,
     {
@@ -81,11 +81,11 @@ mod tests {
         let mut random = Random::new(1);
         let before = Guarded::holding(&mut random, &[1, 2, 3]);
         assert_eq!(before.part(), [1, 2, 3]);
-        assert_eq!(before.difference(&before.clone()), None);
+        assert_eq!(before.first_difference(&before.clone()), None);
         for index in 0..before.memory.len() {
             let mut after = before.clone();
             after.memory[index] ^= 1;
-            let (found, old, new) = before.difference(&after).unwrap();
+            let (found, old, new) = before.first_difference(&after).unwrap();
             assert_eq!(found, index as isize - before.start as isize);
             assert_eq!(old ^ new, 1);
         }

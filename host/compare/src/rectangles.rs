@@ -16,10 +16,10 @@ const SHORT_ROW: usize = 64;
 const LARGE_INDEX: u32 = 104;
 
 /// The rows that are read as one run, each the indices of its values in the coefficient plane.
-type Run = Vec<Vec<usize>>;
+type RowsOfRun = Vec<Vec<usize>>;
 
 /// The runs of a subband's values, in the order in which they are read.
-fn runs(p: &Parameters, band: &Subband) -> Vec<Run> {
+fn runs(p: &Parameters, band: &Subband) -> Vec<RowsOfRun> {
     let across = p.codeblocks_across[band.level as usize] as usize;
     let down = p.codeblocks_down[band.level as usize] as usize;
     let span =
@@ -27,7 +27,7 @@ fn runs(p: &Parameters, band: &Subband) -> Vec<Run> {
     let mut list = Vec::new();
     for block in 0..across * down {
         let columns = span(band.width, block % across, across);
-        let rows: Run = span(band.height, block / across, down)
+        let rows: RowsOfRun = span(band.height, block / across, down)
             .map(|y| (band.top + y) * padded_width(p) + band.left)
             .map(|start| (start + columns.start..start + columns.end).collect())
             .collect();
@@ -50,7 +50,7 @@ fn random_number(random: &mut Random, index: u32) -> i64 {
 }
 
 /// Puts numbers at the ends of rows alone.
-fn put_row_ends(random: &mut Random, run: &Run, index: u32, quantised: &mut [i64]) {
+fn put_row_ends(random: &mut Random, run: &RowsOfRun, index: u32, quantised: &mut [i64]) {
     for row in run {
         for entry in [row[0], row[row.len() - 1]] {
             if random.range(0, 3) > 0 {
@@ -61,7 +61,7 @@ fn put_row_ends(random: &mut Random, run: &Run, index: u32, quantised: &mut [i64
 }
 
 /// Puts numbers with runs of zeros between them up to one near the end; none where there is no room.
-fn put_numbers(random: &mut Random, run: &Run, index: u32, quantised: &mut [i64]) {
+fn put_numbers(random: &mut Random, run: &RowsOfRun, index: u32, quantised: &mut [i64]) {
     let indices = run.concat();
     let tail = random.range(0, 19) as usize;
     let Some(last) = indices.len().checked_sub(1 + tail) else {
@@ -75,7 +75,7 @@ fn put_numbers(random: &mut Random, run: &Run, index: u32, quantised: &mut [i64]
 
 /// Puts a number with a long code, so that a reader takes up the data anew behind it, where 1 to 35 values
 /// are left; they are zeros, or zeros but for one of the last two.
-fn put_tail(random: &mut Random, run: &Run, index: u32, quantised: &mut [i64]) {
+fn put_tail(random: &mut Random, run: &RowsOfRun, index: u32, quantised: &mut [i64]) {
     let indices = run.concat();
     let (about_32, any) = (random.range(31, 33), random.range(1, 35));
     let left = random.pick(&[about_32, any, any]) as usize;
@@ -94,7 +94,7 @@ fn put_tail(random: &mut Random, run: &Run, index: u32, quantised: &mut [i64]) {
 }
 
 /// Puts a number at every entry.
-fn put_everywhere(random: &mut Random, run: &Run, index: u32, quantised: &mut [i64]) {
+fn put_everywhere(random: &mut Random, run: &RowsOfRun, index: u32, quantised: &mut [i64]) {
     for &entry in run.iter().flatten() {
         quantised[entry] = random_number(random, index);
     }

@@ -40,7 +40,7 @@ impl Case {
     }
 
     /// The Dirac stream.
-    pub fn stream(&self) -> Vec<u8> {
+    pub fn dirac_stream(&self) -> Vec<u8> {
         let p = &self.pictures[0].parameters;
         let mut stream = Stream::new(p.width, p.height, self.setting.bit_depth);
         for (number, picture) in self.pictures.iter().enumerate() {

@@ -126,7 +126,7 @@ impl fmt::Display for Counts {
 pub fn compare(case: &Case, counts: &mut Counts) -> Result<Vec<Difference>, String> {
     let samples = sample_area(&case.pictures[0].parameters);
     let Setting { bit_depth, simd } = case.setting;
-    let found = peer::decode(&case.stream(), samples, bit_depth, simd)?;
+    let found = peer::decode(&case.dirac_stream(), samples, bit_depth, simd)?;
     compare_with(case, &found, counts)
 }
 

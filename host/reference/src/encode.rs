@@ -172,7 +172,8 @@ pub enum Rounding {
 /// A value quantised with an index 0..115.
 pub fn quantise(value: i64, index: u32, rounding: Rounding) -> i64 {
     let magnitude = i128::from(value).abs();
-    let floor = (4 * magnitude / i128::from(quantiser_factor(index))) as i64;
+    let floor = i64::try_from(4 * magnitude / i128::from(quantiser_factor(index)))
+        .expect("the factor is 4 or more");
     let m = match rounding {
         Rounding::Floor => floor,
         Rounding::Nearest => (0.max(floor - 1)..=floor + 1)
@@ -213,7 +214,9 @@ pub fn quantise_plane(
                 };
                 let residual = i64::from(coefficients[entry]) - predicted;
                 quantised[entry] = quantise(residual, index, rounding);
-                unpacked[entry] = dequantise(quantised[entry], index) as i64 + predicted;
+                let value = i64::try_from(dequantise(quantised[entry], index))
+                    .expect("a value near a coefficient");
+                unpacked[entry] = value + predicted;
             }
         }
     }

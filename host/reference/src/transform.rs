@@ -275,7 +275,7 @@ impl Grid {
     }
 
     /// A subband's numbers, this grid being a coefficient plane.
-    pub fn subband(&self, band: &Subband) -> Grid {
+    pub fn band(&self, band: &Subband) -> Grid {
         let mut numbers = Grid::new(band.width, band.height);
         for y in 0..band.height {
             for x in 0..band.width {
@@ -323,7 +323,7 @@ fn every_second(picture: &Grid, first_x: usize, first_y: usize) -> Grid {
 /// The picture of depth n, or status 10 at the first level with a number that doesn't fit; the
 /// parameters must be in range (document 01, "Synthesis and analysis").
 fn picture_of_depth(p: &Parameters, coefficients: &Grid, n: u32) -> Result<Grid, Answer> {
-    let band = |orientation| coefficients.subband(&subband_at(p, n, orientation));
+    let band = |orientation| coefficients.band(&subband_at(p, n, orientation));
     if n == 0 {
         return Ok(band(Orientation::LL));
     }

@@ -17,9 +17,9 @@ pub fn build_picture(
         height: padded_height(p),
         numbers: coefficients.iter().map(|&c| c.into()).collect(),
     };
-    let mut picture = plane.subband(&subband_at(p, 0, LL));
+    let mut picture = plane.band(&subband_at(p, 0, LL));
     for n in 1..=p.depth {
-        let [hl, lh, hh] = [HL, LH, HH].map(|band| plane.subband(&subband_at(p, n, band)));
+        let [hl, lh, hh] = [HL, LH, HH].map(|band| plane.band(&subband_at(p, n, band)));
         picture = level(interleave(&picture, &hl, &lh, &hh));
     }
     picture

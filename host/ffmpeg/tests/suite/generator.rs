@@ -9,9 +9,12 @@ fn a_seed_names_its_case() {
     for seed in [1, 2, 77, u64::MAX] {
         let (one, other) = (Case::from_seed(seed), Case::from_seed(seed));
         assert_eq!(one.pictures.len(), PICTURES);
-        assert_eq!(one.stream(), other.stream());
+        assert_eq!(one.dirac_stream(), other.dirac_stream());
     }
-    assert_ne!(Case::from_seed(1).stream(), Case::from_seed(2).stream());
+    assert_ne!(
+        Case::from_seed(1).dirac_stream(),
+        Case::from_seed(2).dirac_stream()
+    );
 }
 
 #[test]
