@@ -1,8 +1,8 @@
 //! Chooses the stored jobs and recordings, and has the reference decoder answer them.
 //!
 //! The reference was written from the papers alone. What is here was written with the proved code in
-//! sight, to reach what that code does apart; so it stands in a crate of its own, and every answer comes
-//! from the reference.
+//! sight, so as to reach every case and every border of it. So it is a crate of its own, and every answer
+//! comes from the reference.
 //!
 //! [`mod@synthesis_vectors`] and [`mod@unpack_vectors`] make the stored jobs of the two proved programs
 //! of these names, [`recording_vectors`] (with [`mod@refused_recordings`] and [`wrong_tables`]) and
