@@ -1,7 +1,7 @@
 /*
  * Calls the archive as C does, with a distinct value in every parameter, and compares what comes back: nothing but this checks the
  * header's declarations against the proved functions. Planes have exactly their lengths and are not set where the call sets them, so that
- * valgrind sees a read or a write beside them. Prints how many comparisons held; exit status 1 where one did not.
+ * valgrind sees a read or a write beside them. Prints how many comparisons passed; exit status 1 where one failed.
  */
 #include "kafsillun.h"
 
@@ -11,13 +11,13 @@
 #include <stdlib.h>
 #include <string.h>
 
-static int held = 0;
+static int passed = 0;
 static int failed = 0;
 
 static void expect(int holds, const char *what)
 {
     if (holds) {
-        held++;
+        passed++;
     } else {
         failed++;
         printf("not so: %s\n", what);
@@ -105,7 +105,7 @@ static void synthesise_sees_each_parameter(void)
     expect_answer(synthesise(p, AREA - 1, AREA, SAMPLES), 5, 0, "synthesise: length of the coefficients");
     expect_answer(synthesise(p, AREA, AREA + 1, SAMPLES), 5, 0, "synthesise: length of work");
     expect_answer(synthesise(p, AREA, AREA, SAMPLES - 1), 5, 0, "synthesise: length of the samples");
-    expect_answer(kafsillun_synthesise(p, NULL, 0, NULL, 0, NULL, 0), 5, 0, "synthesise: nothing lent");
+    expect_answer(kafsillun_synthesise(p, NULL, 0, NULL, 0, NULL, 0), 5, 0, "synthesise: no planes");
     p.wavelet = 7;
     expect_answer(synthesise(p, AREA, AREA, SAMPLES), 3, 0, "synthesise: wavelet");
     p.depth = UINT32_MAX;
@@ -229,7 +229,7 @@ static void unpack_sees_each_parameter(void)
 
     expect_answer(unpack(p, AREA), 0, 7, "unpack: accepted");
     expect_answer(unpack(p, AREA + 1), 5, 0, "unpack: length of the coefficients");
-    expect_answer(kafsillun_unpack(p, NULL, 0, NULL, 0), 5, 0, "unpack: nothing lent");
+    expect_answer(kafsillun_unpack(p, NULL, 0, NULL, 0), 5, 0, "unpack: no plane");
     p.wavelet = 99;
     expect_answer(unpack(p, AREA), 0, 7, "unpack: wavelet not looked at");
     for (level = 0; level < 5; level++) {
@@ -260,7 +260,7 @@ static void unpack_sees_each_parameter(void)
     expect(values[0] == 1 && values[1] == 2, "unpack: predicted values");
 }
 
-/* Decodes bytes over planes of 4 entries that hold other numbers, and says whether all hold what the status owes. */
+/* Decodes bytes over planes of 4 entries that have other numbers, and says whether all have what the status asks for. */
 static void decode_owes(KafsillunParameters p, const uint8_t *bytes, size_t length, uint32_t status, size_t place, const char *what)
 {
     int32_t *coefficients = new_plane(4);
@@ -309,7 +309,7 @@ static void decode_gives_each_status(void)
     decode_owes(p, index_116, 4, 8, 2, "decode: 8");
     decode_owes(p, large, 6, 9, 3, "decode: 9");
     decode_owes(p, large_sum, 8, 10, 1, "decode: 10");
-    expect_answer(kafsillun_decode(p, whole, 8, NULL, 0, NULL, 0, NULL, 0), 5, 0, "decode: nothing lent");
+    expect_answer(kafsillun_decode(p, whole, 8, NULL, 0, NULL, 0, NULL, 0), 5, 0, "decode: no planes");
 }
 
 static void decode_sees_each_length(void)
@@ -363,6 +363,6 @@ int main(void)
     decode_sees_each_length();
     threads_agree(decode_in_thread, "decode: threads");
 #endif
-    printf("%d held, %d did not\n", held, failed);
+    printf("%d passed, %d failed\n", passed, failed);
     return failed != 0;
 }

@@ -1,8 +1,8 @@
 //! Unpack and decode of components that have the same coefficients in more or fewer codeblocks.
 
-use crate::contest::{Effort, PicturePlanes, PROVED};
-use crate::material::Material;
-use crate::race::{race, Contestant};
+use crate::components::Component;
+use crate::decoders::{Effort, PicturePlanes, PROVED};
+use crate::timing::{take_turns, Timed};
 use ffmpeg::stream::COMPONENTS;
 use std::cell::RefCell;
 
@@ -25,25 +25,25 @@ impl CodeblockTimes {
 
 /// How long either job takes on components of one size that were checked. All take turns, so that their
 /// times can be compared, and use the same planes. A turn is a picture of three components.
-pub fn measure(components: &[&Material], effort: Effort) -> Vec<CodeblockTimes> {
+pub fn measure(components: &[&Component], effort: Effort) -> Vec<CodeblockTimes> {
     let [unpack, _, decode] = PROVED;
     let Some(first) = components.first() else {
         return Vec::new();
     };
     let picture = &RefCell::new(PicturePlanes::new(first, COMPONENTS));
-    let mut contestants = Vec::new();
-    for &material in components {
+    let mut timed = Vec::new();
+    for &component in components {
         for job in [unpack, decode] {
-            let samples = COMPONENTS * material.samples();
-            let run = move || picture.borrow_mut().run(material, job);
-            contestants.push(Contestant::new(samples, effort.rounds, run));
+            let samples = COMPONENTS * component.samples();
+            let run = move || picture.borrow_mut().run(component, job);
+            timed.push(Timed::new(samples, effort.rounds, run));
         }
     }
-    race(&mut contestants);
-    let nanoseconds = |contestant: &Contestant| 1e3 / contestant.megasamples();
-    let times = |jobs: &[Contestant]| CodeblockTimes {
+    take_turns(&mut timed);
+    let nanoseconds = |one: &Timed| 1e3 / one.megasamples();
+    let times = |jobs: &[Timed]| CodeblockTimes {
         unpack: nanoseconds(&jobs[0]),
         decode: nanoseconds(&jobs[1]),
     };
-    contestants.chunks(2).map(times).collect()
+    timed.chunks(2).map(times).collect()
 }

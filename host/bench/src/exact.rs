@@ -1,19 +1,19 @@
 //! Synthesise on numbers too large for sums of 32 bits, beside the same numbers made small.
 
-use crate::contest::{Effort, Planes, PROVED};
-use crate::material::Material;
-use crate::race::{race, Contestant};
+use crate::components::Component;
+use crate::decoders::{Effort, Planes, PROVED};
+use crate::timing::{take_turns, Timed};
 use compare::safe_size;
-use reference::params::Orientation::{HH, HL, LH, LL};
-use reference::params::{padded_height, padded_width, subband, subbands, Parameters};
-use reference::transform::{interleave, shift_down, Grid, FILTERS};
+use reference::params::{padded_width, subbands, Parameters};
+use reference::transform::{shift_down, FILTERS};
+use vectors::levels::{build_picture, crop, halve};
 
 /// How many bits the small numbers have fewer.
 const FEWER_BITS: u32 = 20;
 
 /// Large coefficients, and the same made small.
 pub struct LargeAndSmall<'a> {
-    material: &'a Material,
+    component: &'a Component,
     large: Planes,
     small: Planes,
     /// How many of a hundred rows, at all levels, have a number past those that the filter surely lifts
@@ -69,18 +69,18 @@ fn scale(p: &Parameters, coefficients: &mut [i32], level: u32, factor: i64) -> b
 }
 
 /// A component's coefficients, level by level as large as synthesise accepts them.
-fn enlarged(material: &Material) -> Planes {
+fn enlarged(component: &Component) -> Planes {
     let [unpack, synthesise, _] = PROVED;
-    let p = &material.parameters;
-    let mut planes = Planes::new(material);
-    unpack(material, &mut planes);
+    let p = &component.parameters;
+    let mut planes = Planes::new(component);
+    unpack(component, &mut planes);
     let mut tried = planes.clone();
     let factors = factors();
     for level in 1..=p.depth {
         let count = factors.partition_point(|factor| {
             tried.coefficients.copy_from_slice(&planes.coefficients);
             scale(p, &mut tried.coefficients, level, *factor)
-                && synthesise(material, &mut tried) == 0
+                && synthesise(component, &mut tried) == 0
         });
         // With the first factor, 1, they are as they were, and accepted.
         scale(p, &mut planes.coefficients, level, factors[count - 1]);
@@ -91,59 +91,40 @@ fn enlarged(material: &Material) -> Planes {
 /// Synthesis by the reference's steps: the samples, and how many of a hundred rows have a number above a
 /// bound when the rows of their level are filtered.
 fn synthesise_by_steps(p: &Parameters, coefficients: &[i32], bound: i128) -> (Vec<i128>, f64) {
-    let plane = Grid {
-        width: padded_width(p),
-        height: padded_height(p),
-        numbers: coefficients.iter().map(|&c| i128::from(c)).collect(),
-    };
     let filter = &FILTERS[p.wavelet as usize];
-    let mut picture = plane.subband(&subband(p, 0, LL));
+    let is_large = |row: &&[i128]| row.iter().any(|number| number.abs() > bound);
     let (mut rows, mut large_rows) = (0, 0);
-    for level in 1..=p.depth {
-        let [hl, lh, hh] = [HL, LH, HH].map(|band| plane.subband(&subband(p, level, band)));
-        picture = interleave(&picture, &hl, &lh, &hh);
+    let picture = build_picture(p, coefficients, |mut picture| {
         picture.filter_columns(filter.steps);
-        let is_large = |row: &&[i128]| row.iter().any(|number| number.abs() > bound);
+        let lines = picture.numbers.chunks(picture.width);
         rows += picture.height;
-        large_rows += picture
-            .numbers
-            .chunks(picture.width)
-            .filter(is_large)
-            .count();
+        large_rows += lines.filter(is_large).count();
         picture.filter_rows(filter.steps);
-        if filter.shift == 1 {
-            for number in &mut picture.numbers {
-                *number = shift_down(*number);
-            }
-        }
-    }
-    let rows_of_picture = picture
-        .numbers
-        .chunks(picture.width)
-        .take(p.height as usize);
-    let samples = rows_of_picture.flat_map(|row| row[..p.width as usize].to_vec());
-    (samples.collect(), 100.0 * large_rows as f64 / rows as f64)
+        halve(filter, &mut picture, shift_down);
+        picture
+    });
+    (crop(p, &picture), 100.0 * large_rows as f64 / rows as f64)
 }
 
 impl LargeAndSmall<'_> {
     /// The coefficients of a component, level by level as large as synthesise accepts them, and the same
     /// made small; or that synthesise gives other samples than the reference's steps.
-    pub fn of(material: &Material) -> Result<LargeAndSmall<'_>, String> {
+    pub fn of(component: &Component) -> Result<LargeAndSmall<'_>, String> {
         let [_, synthesise, _] = PROVED;
-        let p = &material.parameters;
-        let mut large = enlarged(material);
+        let p = &component.parameters;
+        let mut large = enlarged(component);
         let mut small = large.clone();
         for c in &mut small.coefficients {
             *c >>= FEWER_BITS;
         }
         let bound = safe_size(p.wavelet);
         let (samples, large_rows) = synthesise_by_steps(p, &large.coefficients, bound.into());
-        let status = synthesise(material, &mut large);
+        let status = synthesise(component, &mut large);
         if status != 0 || !large.samples.iter().map(|&v| i128::from(v)).eq(samples) {
             return Err("the reference differs on large numbers".to_string());
         }
         Ok(LargeAndSmall {
-            material,
+            component,
             large,
             small,
             large_rows,
@@ -152,7 +133,7 @@ impl LargeAndSmall<'_> {
 
     /// The wavelet.
     pub fn wavelet(&self) -> u32 {
-        self.material.parameters.wavelet
+        self.component.parameters.wavelet
     }
 
     /// The sizes of the largest of the large and of the small numbers.
@@ -168,15 +149,15 @@ impl LargeAndSmall<'_> {
     /// How long synthesise takes on either.
     pub fn measure(&self, effort: Effort) -> ExactTimes {
         let [_, synthesise, _] = PROVED;
-        let samples = self.material.samples();
-        let mut contestants = [&self.large, &self.small].map(|planes| {
+        let samples = self.component.samples();
+        let mut timed = [&self.large, &self.small].map(|planes| {
             let mut planes = planes.clone();
-            Contestant::new(samples, effort.rounds, move || {
-                assert_eq!(synthesise(self.material, &mut planes), 0, "checked");
+            Timed::new(samples, effort.rounds, move || {
+                assert_eq!(synthesise(self.component, &mut planes), 0, "checked");
             })
         });
-        race(&mut contestants);
-        let [large, small] = contestants.map(|c| 1e9 * c.seconds() / samples as f64);
+        take_turns(&mut timed);
+        let [large, small] = timed.map(|c| 1e9 * c.seconds() / samples as f64);
         ExactTimes { large, small }
     }
 }

@@ -3,7 +3,7 @@
 //! The program `bench_job` runs the jobs on a component, each so many times. A run more, counted beside a
 //! run less, is what one call executes, whatever the program does besides.
 
-use crate::material::{Codeblocks, Material};
+use crate::components::{Codeblocks, Component};
 use crate::report::{head_cells, write_table, HEAD};
 use std::fmt::{self, Display, Formatter};
 use std::path::{Path, PathBuf};
@@ -63,12 +63,12 @@ pub fn collected(text: &str) -> Option<u64> {
 /// The instructions of the program that runs each job on a component so many times.
 fn count_runs(
     program: &Path,
-    material: &Material,
+    component: &Component,
     body: &Path,
     runs: [u32; 3],
 ) -> Result<u64, String> {
-    let p = &material.parameters;
-    let Codeblocks { across, down, .. } = material.codeblocks;
+    let p = &component.parameters;
+    let Codeblocks { across, down, .. } = component.codeblocks;
     let numbers = [p.width, p.height, p.depth, p.wavelet, across, down];
     let output = Command::new("valgrind")
         .args(VALGRIND)
@@ -84,17 +84,17 @@ fn count_runs(
 
 impl Counts {
     /// Counts the jobs on a component in that program, which stands at a path.
-    pub fn of(material: &Material, program: &Path) -> Result<Counts, String> {
-        let body = TemporaryFile::new(&material.body)?;
-        let count = |runs| count_runs(program, material, &body.0, runs);
+    pub fn of(component: &Component, program: &Path) -> Result<Counts, String> {
+        let body = TemporaryFile::new(&component.body)?;
+        let count = |runs| count_runs(program, component, &body.0, runs);
         // Synthesise needs coefficients, so one unpack is always there.
         let base = count([1, 0, 0])?;
         let mut a_sample = [0.0; 3];
         for (job, more) in [[2, 0, 0], [1, 1, 0], [1, 0, 1]].into_iter().enumerate() {
-            a_sample[job] = (count(more)? - base) as f64 / material.samples() as f64;
+            a_sample[job] = (count(more)? - base) as f64 / component.samples() as f64;
         }
-        let mut head = head_cells(material);
-        head.push(material.codeblocks.to_string());
+        let mut head = head_cells(component);
+        head.push(component.codeblocks.to_string());
         Ok(Counts { head, a_sample })
     }
 }

@@ -1,20 +1,20 @@
 //! Measures the proved decoder beside the reference decoder and libavcodec.
 //!
-//! [`material`] lists the components and makes them from a [`picture`]; [`contest`] checks that all
-//! decoders agree on one and times them in turn, by [`race`] and [`clock`]; [`codeblocks`] times many
+//! [`components`] lists the components and makes them from a [`picture`]; [`decoders`] checks that all
+//! decoders agree on one and times them in turn, by [`timing`] and [`clock`]; [`codeblocks`] times many
 //! codeblocks, [`exact`] synthesise on large numbers, [`refusals`] calls that are refused. [`tables`] says
 //! which table has what, [`report`] writes them. [`instructions`] counts instructions under valgrind.
 //! [`libavcodec`] is there only where FFmpeg's libraries were found when this was built.
 
 pub mod clock;
 pub mod codeblocks;
-pub mod contest;
+pub mod components;
+pub mod decoders;
 pub mod exact;
 pub mod instructions;
 pub mod libavcodec;
-pub mod material;
 pub mod picture;
-pub mod race;
 pub mod refusals;
 pub mod report;
 pub mod tables;
+pub mod timing;

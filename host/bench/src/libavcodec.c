@@ -13,7 +13,7 @@ typedef struct BenchDecoder {
     AVCodecContext *context;
     AVPacket *packet;
     AVFrame *frame;
-    size_t number_place; /* of the picture number, in the packet */
+    size_t number_offset; /* of the picture number, in the packet */
     uint32_t number;     /* of the next picture */
     int simd;
 } BenchDecoder;
@@ -27,15 +27,15 @@ static void set_cpu_flags(const BenchDecoder *decoder)
 }
 
 /* A decoder of a packet, or NULL. */
-BenchDecoder *bench_open(const uint8_t *bytes, size_t length, size_t number_place, int simd)
+BenchDecoder *bench_open(const uint8_t *bytes, size_t length, size_t number_offset, int simd)
 {
     const AVCodec *codec = avcodec_find_decoder(AV_CODEC_ID_DIRAC);
     BenchDecoder *decoder = calloc(1, sizeof *decoder);
-    if (!codec || !decoder || length > INT32_MAX || length < 4 || number_place > length - 4) {
+    if (!codec || !decoder || length > INT32_MAX || length < 4 || number_offset > length - 4) {
         free(decoder);
         return NULL;
     }
-    decoder->number_place = number_place;
+    decoder->number_offset = number_offset;
     decoder->simd = simd;
     decoder->context = avcodec_alloc_context3(codec);
     decoder->packet = av_packet_alloc();
@@ -63,7 +63,7 @@ void bench_close(BenchDecoder *decoder)
 /* Decodes the picture once more; answers 0, or libavcodec's error. */
 int bench_decode(BenchDecoder *decoder)
 {
-    uint8_t *number = decoder->packet->data + decoder->number_place;
+    uint8_t *number = decoder->packet->data + decoder->number_offset;
     int error;
     for (int k = 0; k < 4; k++)
         number[k] = (uint8_t)(decoder->number >> (24 - 8 * k));

@@ -23,7 +23,7 @@ mod foreign {
         pub fn bench_open(
             bytes: *const u8,
             length: usize,
-            number_place: usize,
+            number_offset: usize,
             simd: c_int,
         ) -> *mut BenchDecoder;
         pub fn bench_close(decoder: *mut BenchDecoder);
@@ -49,12 +49,12 @@ impl Libavcodec {
         Some(format!("{major}.{minor}.{micro}"))
     }
 
-    /// A decoder of a packet with a sequence header and a picture whose number stands at a place; with
+    /// A decoder of a packet with a sequence header and a picture whose number stands at an offset; with
     /// or without SIMD code. None where libavcodec is not installed.
-    pub fn new(packet: &[u8], number_place: usize, simd: bool) -> Option<Libavcodec> {
+    pub fn new(packet: &[u8], number_offset: usize, simd: bool) -> Option<Libavcodec> {
         // SAFETY: the pointer and the length are of one slice, which the decoder copies.
         let decoder = unsafe {
-            foreign::bench_open(packet.as_ptr(), packet.len(), number_place, simd.into())
+            foreign::bench_open(packet.as_ptr(), packet.len(), number_offset, simd.into())
         };
         let decoder = std::ptr::NonNull::new(decoder).expect("libavcodec has a Dirac decoder");
         Some(Libavcodec { decoder })
@@ -101,7 +101,7 @@ impl Libavcodec {
     }
 
     /// None, since libavcodec is not installed.
-    pub fn new(_packet: &[u8], _number_place: usize, _simd: bool) -> Option<Libavcodec> {
+    pub fn new(_packet: &[u8], _number_offset: usize, _simd: bool) -> Option<Libavcodec> {
         None
     }
 

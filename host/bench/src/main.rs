@@ -1,11 +1,12 @@
 //! The command: measures, and prints the tables.
 
-use bench::contest::Effort;
+use bench::decoders::Effort;
 use bench::instructions::{valgrind_version, CountReport, Counts, PROGRAM};
 use bench::libavcodec::Libavcodec;
 use bench::tables::{components, counted_components, Tables};
 use std::process::ExitCode;
 use std::time::Instant;
+use vectors::command_line;
 
 const USAGE: &str = "usage: bench [--quick]
        bench --instructions
@@ -79,7 +80,7 @@ fn run(passes: Passes) -> Result<(), String> {
         passes.count * passes.effort.reference_rounds
     );
     println!("Planes are not cleared between turns: what a decoder clears is in its time.\n");
-    print!("{}", tables.report());
+    print!("{}", tables.to_report());
     println!("\n{:.0} s in all", start.elapsed().as_secs_f64());
     Ok(())
 }
@@ -89,42 +90,42 @@ fn count_instructions(valgrind: &str) -> Result<(), String> {
     let this = std::env::current_exe().map_err(|error| error.to_string())?;
     let program = this.with_file_name(PROGRAM);
     let mut rows = Vec::new();
-    for material in counted_components()? {
-        let wavelet = material.parameters.wavelet;
-        let (index, codeblocks) = (material.index, material.codeblocks);
+    for component in counted_components()? {
+        let wavelet = component.parameters.wavelet;
+        let (index, codeblocks) = (component.index, component.codeblocks);
         eprintln!("counting: wavelet {wavelet}, index {index}, codeblocks {codeblocks}");
-        rows.push(Counts::of(&material, &program)?);
+        rows.push(Counts::of(&component, &program)?);
     }
     println!("Counted by {valgrind}, callgrind.\n");
     print!("{}", CountReport(rows));
     Ok(())
 }
 
+/// What the command line asks for.
+enum Request {
+    Measure(Passes),
+    CountInstructions { valgrind: String },
+}
+
+/// Reads the command line, or says what is wrong with it.
+fn read_request(words: &[&str]) -> Result<Request, String> {
+    match words {
+        [] => Ok(Request::Measure(FULL)),
+        ["--quick"] => Ok(Request::Measure(QUICK)),
+        ["--instructions"] => match valgrind_version() {
+            Some(valgrind) => Ok(Request::CountInstructions { valgrind }),
+            None => Err("valgrind is not installed".to_string()),
+        },
+        _ => Err("no such option, or one too many".to_string()),
+    }
+}
+
 /// Runs the command.
 fn main() -> ExitCode {
-    let words: Vec<String> = std::env::args_os()
-        .skip(1)
-        .map(|word| word.to_string_lossy().into_owned())
-        .collect();
-    let words: Vec<&str> = words.iter().map(String::as_str).collect();
-    let result = match words.as_slice() {
-        [] => run(FULL),
-        ["--quick"] => run(QUICK),
-        ["--instructions"] => match valgrind_version() {
-            Some(version) => count_instructions(&version),
-            None => {
-                eprintln!("bench: valgrind is not installed");
-                return ExitCode::from(2);
-            }
-        },
-        ["--help" | "-h"] => {
-            print!("{USAGE}");
-            return ExitCode::SUCCESS;
-        }
-        _ => {
-            eprint!("bench: a wrong command line\n\n{USAGE}");
-            return ExitCode::from(2);
-        }
+    let result = match command_line::read("bench", USAGE, read_request) {
+        Ok(Request::Measure(passes)) => run(passes),
+        Ok(Request::CountInstructions { valgrind }) => count_instructions(&valgrind),
+        Err(status) => return status,
     };
     match result {
         Ok(()) => ExitCode::SUCCESS,

@@ -1,6 +1,6 @@
 //! Pictures that look natural enough: even ground, sharp edges, texture and noise.
 
-use reference::random::Random;
+use vectors::random::Random;
 
 /// The largest magnitude of a sample. With it, level 0 of every wavelet stays within what FFmpeg's
 /// prediction can divide exactly.

@@ -1,9 +1,9 @@
 //! The tables.
 
 use crate::codeblocks::CodeblockTimes;
-use crate::contest::{libavcodec_agrees, Speeds};
+use crate::components::Component;
+use crate::decoders::{libavcodec_agrees, Speeds};
 use crate::exact::{ExactTimes, LargeAndSmall};
-use crate::material::Material;
 use crate::refusals::Call;
 use std::fmt::{self, Display, Formatter};
 
@@ -11,18 +11,18 @@ use std::fmt::{self, Display, Formatter};
 pub const HEAD: [&str; 5] = ["size", "depth", "wavelet", "index", "bits a sample"];
 
 /// The cells that name a component.
-pub fn head_cells(material: &Material) -> Vec<String> {
-    let p = &material.parameters;
+pub fn head_cells(component: &Component) -> Vec<String> {
+    let p = &component.parameters;
     vec![
         format!("{} x {}", p.width, p.height),
         p.depth.to_string(),
         p.wavelet.to_string(),
-        material.index.to_string(),
-        format!("{:.2}", material.bits_a_sample()),
+        component.index.to_string(),
+        format!("{:.2}", component.bits_a_sample()),
     ]
 }
 
-/// One component and how fast everyone was on it.
+/// One component and how fast every decoder was on it.
 #[derive(Clone)]
 pub struct Row {
     head: Vec<String>,
@@ -32,10 +32,10 @@ pub struct Row {
 
 impl Row {
     /// The row of a component.
-    pub fn new(material: &Material, speeds: Speeds) -> Row {
+    pub fn new(component: &Component, speeds: Speeds) -> Row {
         Row {
-            head: head_cells(material),
-            wavelet: material.parameters.wavelet,
+            head: head_cells(component),
+            wavelet: component.parameters.wavelet,
             speeds,
         }
     }
@@ -64,14 +64,14 @@ pub struct CodeblockRow {
 
 impl CodeblockRow {
     /// The row of a component, whose times are given with those of one codeblock.
-    pub fn new(material: &Material, times: CodeblockTimes, one: CodeblockTimes) -> CodeblockRow {
-        let zeros = if material.codeblocks.flag_zeros {
+    pub fn new(component: &Component, times: CodeblockTimes, one: CodeblockTimes) -> CodeblockRow {
+        let zeros = if component.codeblocks.flag_zeros {
             "flagged"
         } else {
             "written out"
         };
-        let mut head = head_cells(material);
-        head.extend([material.codeblocks.to_string(), zeros.to_string()]);
+        let mut head = head_cells(component);
+        head.extend([component.codeblocks.to_string(), zeros.to_string()]);
         CodeblockRow { head, times, one }
     }
 }
@@ -113,7 +113,7 @@ impl RefusalRow {
     }
 }
 
-/// The columns of the table of all contestants.
+/// The columns of the table of all decoders.
 const DECODERS: [&str; 8] = [
     "unpack",
     "synthesise",

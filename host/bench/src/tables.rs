@@ -1,12 +1,12 @@
 //! What goes into which table, and the passes over all of it.
 
 use crate::codeblocks::{self, CodeblockTimes};
-use crate::contest::{check, measure, Effort, Speeds};
-use crate::exact::{ExactTimes, LargeAndSmall};
-use crate::material::{
-    Codeblocks, Material, Plan, Rate, COUNTED_CODEBLOCKS, COUNTED_SIZE, FULL_SIZE, MANY_CODEBLOCKS,
-    MANY_CODEBLOCKS_RATE, ONE_WAVELET, OTHER_RATES, OTHER_SIZES, RATES, WAVELETS,
+use crate::components::{
+    Codeblocks, Component, Plan, Rate, COUNTED_CODEBLOCKS, COUNTED_SIZE, FULL_SIZE,
+    MANY_CODEBLOCKS, MANY_CODEBLOCKS_RATE, ONE_WAVELET, OTHER_RATES, OTHER_SIZES, RATES, WAVELETS,
 };
+use crate::decoders::{check, measure, Effort, Speeds};
+use crate::exact::{ExactTimes, LargeAndSmall};
 use crate::refusals::{self, Call};
 use crate::report::{CodeblockRow, ExactRow, RefusalRow, Report, Row};
 
@@ -16,19 +16,19 @@ fn checked(
     plan: Plan,
     rates: &[Rate],
     other_reference_jobs: bool,
-) -> Result<Vec<Material>, String> {
+) -> Result<Vec<Component>, String> {
     eprintln!("encoding and checking: {plan}");
-    let components = Material::of(plan, rates);
-    for material in &components {
-        let index = material.index;
-        check(material, other_reference_jobs)
+    let components = Component::of(plan, rates);
+    for component in &components {
+        let index = component.index;
+        check(component, other_reference_jobs)
             .map_err(|what| format!("{plan}, index {index}: {what}"))?;
     }
     Ok(components)
 }
 
 /// A component of a size for each of these codeblocks, checked; or which decoders differ on one.
-fn in_codeblocks(size: (u32, u32), all: &[Codeblocks]) -> Result<Vec<Material>, String> {
+fn in_codeblocks(size: (u32, u32), all: &[Codeblocks]) -> Result<Vec<Component>, String> {
     let mut components = Vec::new();
     for &codeblocks in all {
         let plan = Plan {
@@ -41,7 +41,7 @@ fn in_codeblocks(size: (u32, u32), all: &[Codeblocks]) -> Result<Vec<Material>, 
 }
 
 /// The components whose instructions are counted, or which decoders differ on one.
-pub fn counted_components() -> Result<Vec<Material>, String> {
+pub fn counted_components() -> Result<Vec<Component>, String> {
     let mut components = Vec::new();
     for wavelet in WAVELETS {
         components.extend(checked(Plan::new(COUNTED_SIZE, wavelet), &RATES, false)?);
@@ -51,7 +51,7 @@ pub fn counted_components() -> Result<Vec<Material>, String> {
 }
 
 /// The components of all tables, or which decoders differ on one.
-pub fn components() -> Result<Vec<Material>, String> {
+pub fn components() -> Result<Vec<Component>, String> {
     let mut components = Vec::new();
     for wavelet in WAVELETS {
         components.extend(checked(Plan::new(FULL_SIZE, wavelet), &RATES, true)?);
@@ -67,36 +67,36 @@ pub fn components() -> Result<Vec<Material>, String> {
 }
 
 /// Whether a component is one of the tables of wavelets, which have the reference beside the others.
-fn is_of_wavelets(material: &Material) -> bool {
-    material.size() == FULL_SIZE && RATES.contains(&material.rate)
+fn is_of_wavelets(component: &Component) -> bool {
+    component.size() == FULL_SIZE && RATES.contains(&component.rate)
 }
 
 /// Whether a component is one of the table of sizes.
-fn is_of_sizes(material: &Material) -> bool {
-    material.parameters.wavelet == ONE_WAVELET && material.rate == RATES[0]
+fn is_of_sizes(component: &Component) -> bool {
+    component.parameters.wavelet == ONE_WAVELET && component.rate == RATES[0]
 }
 
 /// Whether a component is one of the table of rates.
-fn is_of_rates(material: &Material) -> bool {
-    material.parameters.wavelet == ONE_WAVELET && material.size() == FULL_SIZE
+fn is_of_rates(component: &Component) -> bool {
+    component.parameters.wavelet == ONE_WAVELET && component.size() == FULL_SIZE
 }
 
 /// Whether a component is one of the table of many codeblocks, and of no other.
-fn is_of_codeblocks(material: &Material) -> bool {
-    material.rate == MANY_CODEBLOCKS_RATE
+fn is_of_codeblocks(component: &Component) -> bool {
+    component.rate == MANY_CODEBLOCKS_RATE
 }
 
 /// Whether a component is measured with large numbers, too, and with refusals if it is of the one
 /// wavelet.
-fn is_of_exact(material: &Material) -> bool {
-    material.size() == FULL_SIZE && material.rate == RATES[RATES.len() - 1]
+fn is_of_exact(component: &Component) -> bool {
+    component.size() == FULL_SIZE && component.rate == RATES[RATES.len() - 1]
 }
 
 /// What is measured in every pass, and the best of it so far.
 pub struct Tables<'a> {
-    contests: Vec<(&'a Material, Option<Speeds>)>,
+    timed: Vec<(&'a Component, Option<Speeds>)>,
     /// The first has one codeblock.
-    codeblocks: Vec<(&'a Material, Option<CodeblockTimes>)>,
+    codeblocks: Vec<(&'a Component, Option<CodeblockTimes>)>,
     exact: Vec<(LargeAndSmall<'a>, Option<ExactTimes>)>,
     refusals: Vec<(Call, Option<f64>)>,
 }
@@ -108,21 +108,21 @@ fn keep_best<T: Copy>(best: &mut Option<T>, now: T, better: impl Fn(T, T) -> T) 
 
 impl Tables<'_> {
     /// The tables of all components, or which decoders differ.
-    pub fn new(components: &[Material]) -> Result<Tables<'_>, String> {
+    pub fn new(components: &[Component]) -> Result<Tables<'_>, String> {
         eprintln!("checking large numbers and refusals");
         let mut exact = Vec::new();
         let mut refusals = Vec::new();
-        for material in components.iter().filter(|material| is_of_exact(material)) {
-            exact.push((LargeAndSmall::of(material)?, None));
-            if material.parameters.wavelet == ONE_WAVELET {
-                refusals = refusals::calls(material)?;
+        for component in components.iter().filter(|component| is_of_exact(component)) {
+            exact.push((LargeAndSmall::of(component)?, None));
+            if component.parameters.wavelet == ONE_WAVELET {
+                refusals = refusals::calls(component)?;
             }
         }
-        let (codeblocks, contests): (Vec<_>, Vec<_>) = components
+        let (codeblocks, timed): (Vec<_>, Vec<_>) = components
             .iter()
-            .partition(|material| is_of_codeblocks(material));
+            .partition(|component| is_of_codeblocks(component));
         Ok(Tables {
-            contests: contests.into_iter().map(|m| (m, None)).collect(),
+            timed: timed.into_iter().map(|m| (m, None)).collect(),
             codeblocks: codeblocks.into_iter().map(|m| (m, None)).collect(),
             exact,
             refusals: refusals.into_iter().map(|call| (call, None)).collect(),
@@ -135,13 +135,13 @@ impl Tables<'_> {
             reference_rounds: 0,
             ..effort
         };
-        for (material, best) in &mut self.contests {
-            let effort = if is_of_wavelets(material) {
+        for (component, best) in &mut self.timed {
+            let effort = if is_of_wavelets(component) {
                 effort
             } else {
                 alone
             };
-            keep_best(best, measure(material, effort), Speeds::best);
+            keep_best(best, measure(component, effort), Speeds::best);
         }
         self.measure_codeblocks(effort);
         for (both, best) in &mut self.exact {
@@ -156,7 +156,7 @@ impl Tables<'_> {
 
     /// Measures the table of many codeblocks once more.
     fn measure_codeblocks(&mut self, effort: Effort) {
-        let components: Vec<&Material> = self.codeblocks.iter().map(|(m, _)| *m).collect();
+        let components: Vec<&Component> = self.codeblocks.iter().map(|(m, _)| *m).collect();
         let times = codeblocks::measure(&components, effort);
         for ((_, best), time) in self.codeblocks.iter_mut().zip(times) {
             keep_best(best, time, CodeblockTimes::best);
@@ -164,13 +164,13 @@ impl Tables<'_> {
     }
 
     /// The rows of a table of components, in the order of a key.
-    fn rows(&self, belongs: fn(&Material) -> bool, key: fn(&Material) -> usize) -> Vec<Row> {
-        let mut contests: Vec<_> = self.contests.iter().filter(|(m, _)| belongs(m)).collect();
-        contests.sort_by_key(|(material, _)| key(material));
-        let row = |(material, speeds): &(&Material, Option<Speeds>)| {
-            Row::new(material, speeds.expect("a pass"))
+    fn rows(&self, belongs: fn(&Component) -> bool, key: fn(&Component) -> usize) -> Vec<Row> {
+        let mut timed: Vec<_> = self.timed.iter().filter(|(m, _)| belongs(m)).collect();
+        timed.sort_by_key(|(component, _)| key(component));
+        let row = |(component, speeds): &(&Component, Option<Speeds>)| {
+            Row::new(component, speeds.expect("a pass"))
         };
-        contests.into_iter().map(row).collect()
+        timed.into_iter().map(row).collect()
     }
 
     /// The rows of the table of many codeblocks.
@@ -180,18 +180,18 @@ impl Tables<'_> {
         };
         let one = one.expect("a pass");
         let rows = self.codeblocks.iter();
-        rows.map(|(material, times)| CodeblockRow::new(material, times.expect("a pass"), one))
+        rows.map(|(component, times)| CodeblockRow::new(component, times.expect("a pass"), one))
             .collect()
     }
 
     /// The report after the last pass.
-    pub fn report(&self) -> Report {
+    pub fn to_report(&self) -> Report {
         let exact = self.exact.iter();
         let refusals = self.refusals.iter();
         Report {
             wavelets: self.rows(is_of_wavelets, |_| 0),
-            sizes: self.rows(is_of_sizes, Material::samples),
-            rates: self.rows(is_of_rates, |material| material.body.len()),
+            sizes: self.rows(is_of_sizes, Component::samples),
+            rates: self.rows(is_of_rates, |component| component.body.len()),
             codeblocks: self.codeblock_rows(),
             exact: exact
                 .map(|(both, times)| ExactRow::new(both, times.expect("a pass")))

@@ -3,11 +3,11 @@
 use reference::codes::{BitReader, BitWriter, PastEnd};
 use reference::encode::{encode_subbands, EncodeOptions, SubbandOptions};
 use reference::params::{padded_area, padded_width, subbands, Parameters, Subband, MAX_QUANTISER};
-use reference::pieces::{self, LARGEST_NUMBER};
-use reference::random::Random;
-use reference::recording_vectors::random_picture;
 use reference::unpack::quantiser_factor;
 use reference::{quantise_plane, Rounding};
+use vectors::pieces::{self, LARGEST_NUMBER};
+use vectors::random::Random;
+use vectors::recording_vectors::random_picture;
 
 /// The quantised numbers of a component, and how each subband is written.
 pub struct Body {
@@ -43,8 +43,8 @@ pub fn random_bytes(random: &mut Random, most: i64) -> Vec<u8> {
         .collect()
 }
 
-/// The place in the coefficient plane of some position of a subband.
-pub fn random_place(random: &mut Random, p: &Parameters, band: &Subband) -> usize {
+/// The entry of the coefficient plane at some position of a subband.
+pub fn random_entry(random: &mut Random, p: &Parameters, band: &Subband) -> usize {
     let x = random.range(0, band.width as i64 - 1) as usize;
     let y = random.range(0, band.height as i64 - 1) as usize;
     (band.top + y) * padded_width(p) + band.left + x
@@ -241,6 +241,6 @@ fn put_fault(random: &mut Random, p: &Parameters, body: &mut Body, k: usize) {
             number.clamp(0, LARGEST_NUMBER as i64)
         }
     };
-    let place = random_place(random, p, &subbands(p)[k]);
-    body.quantised[place] = random.pick(&[-1, 1]) * number;
+    let entry = random_entry(random, p, &subbands(p)[k]);
+    body.quantised[entry] = random.pick(&[-1, 1]) * number;
 }

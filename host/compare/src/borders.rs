@@ -7,39 +7,39 @@ use crate::bodies::{random_bytes, Body};
 use reference::codes::{BitReader, PastEnd};
 use reference::encode::{EncodeOptions, SubbandOptions};
 use reference::params::{padded_area, padded_width, subbands, Parameters, Subband};
-use reference::pieces::{self, subband_bytes};
-use reference::random::Random;
 use reference::unpack::{codeblock_start, quantiser_factor, quantiser_offset};
+use vectors::pieces::{self, subband_bytes};
+use vectors::random::Random;
 
 /// The most bits of a signed number's code.
 const LONGEST_CODE: i64 = 64;
 
-/// The places of a subband's values in the coefficient plane, in the order in which they are read.
+/// The indices of a subband's values in the coefficient plane, in the order in which they are read.
 fn reading_order(p: &Parameters, band: &Subband) -> Vec<usize> {
     let across = p.codeblocks_across[band.level as usize] as usize;
     let down = p.codeblocks_down[band.level as usize] as usize;
     let span =
         |size, k, count| codeblock_start(size, k, count)..codeblock_start(size, k + 1, count);
-    let mut places = Vec::new();
+    let mut indices = Vec::new();
     for block_y in 0..down {
         for block_x in 0..across {
             for y in span(band.height, block_y, down) {
                 for x in span(band.width, block_x, across) {
-                    places.push((band.top + y) * padded_width(p) + band.left + x);
+                    indices.push((band.top + y) * padded_width(p) + band.left + x);
                 }
             }
         }
     }
-    places
+    indices
 }
 
 /// How many zeros stand before the next number: none, a few, or up to 41, often about as many as the
 /// bits of some bytes.
 fn random_run(random: &mut Random) -> usize {
     let bytes = 8 * random.range(1, 5);
-    let near = bytes + random.range(-2, 1);
+    let about = bytes + random.range(-2, 1);
     let (few, any) = (random.range(0, 3), random.range(0, 41));
-    random.pick(&[0, few, few, near, any]) as usize
+    random.pick(&[0, few, few, about, any]) as usize
 }
 
 /// A number whose signed code takes so many bits: 4, 6 and on to 64. Of those with 64 bits, one that
@@ -57,13 +57,13 @@ pub fn number_of_code(random: &mut Random, bits: i64) -> i64 {
 /// Fills a subband with runs of zeros and numbers between them.
 pub fn put_runs(
     random: &mut Random,
-    places: &[usize],
+    indices: &[usize],
     quantised: &mut [i64],
     mut number: impl FnMut(&mut Random) -> i64,
 ) {
     let mut k = random_run(random);
-    while k < places.len() {
-        quantised[places[k]] = number(random);
+    while k < indices.len() {
+        quantised[indices[k]] = number(random);
         k += 1 + random_run(random);
     }
 }
@@ -76,8 +76,8 @@ fn body_of_runs(
     number: fn(&mut Random, u32) -> i64,
 ) -> Body {
     body_of_bands(random, p, index, |random, band, index, quantised| {
-        let places = reading_order(p, band);
-        put_runs(random, &places, quantised, |random| number(random, index));
+        let indices = reading_order(p, band);
+        put_runs(random, &indices, quantised, |random| number(random, index));
     })
 }
 
@@ -153,8 +153,8 @@ pub fn large_index_body(random: &mut Random, p: &Parameters) -> Body {
         let bands = subbands(p);
         let k = random.range(0, bands.len() as i64 - 1) as usize;
         let index = body.options.subbands[k].quantiser as u32;
-        let place = random.pick(&reading_order(p, &bands[k]));
-        body.quantised[place] = random.pick(&[-1, 1]) * (largest_that_fits(index) + 1);
+        let entry = random.pick(&reading_order(p, &bands[k]));
+        body.quantised[entry] = random.pick(&[-1, 1]) * (largest_that_fits(index) + 1);
     }
     body
 }

@@ -1,4 +1,4 @@
-//! One component at random, with everything that the three jobs are lent.
+//! One component at random, with everything that the three jobs are given.
 
 use crate::bodies::{
     change_length, faulty_bytes, flip_bits, lossless_body, noise, picture_body, random_body,
@@ -11,9 +11,9 @@ use crate::parameters::{
 use crate::planes::{extreme_at_a_level, plane_of_kind, random_coefficients, PlaneKind};
 use crate::rectangles::rectangles_bytes;
 use reference::params::{padded_area, sample_area};
-use reference::random::Random;
 use reference::Parameters;
 use std::fmt::Write;
+use vectors::random::Random;
 
 /// What a case is made for.
 #[derive(Clone, Copy, Debug, PartialEq, Eq, PartialOrd, Ord)]
@@ -83,7 +83,7 @@ pub struct Case {
     pub parameters: Parameters,
     /// What unpack and decode read.
     pub bytes: Vec<u8>,
-    /// What synthesise reads; unpack and decode are lent a plane of the same length.
+    /// What synthesise reads; unpack and decode are given a plane of the same length.
     pub coefficients: Vec<i32>,
     pub plane_kind: PlaneKind,
     pub work_length: usize,

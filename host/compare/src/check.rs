@@ -2,10 +2,9 @@
 
 use crate::case::Case;
 use crate::guarded::{Entry, Guarded};
-use crate::parameters::proved_parameters;
-use reference::random::Random;
 use reference::{Answer, Parameters};
 use std::fmt;
+use vectors::random::Random;
 
 /// A public job.
 #[derive(Clone, Copy, Debug, PartialEq, Eq)]
@@ -54,9 +53,9 @@ impl fmt::Display for Difference {
     }
 }
 
-/// What a job is lent. Unpack takes the bytes and the coefficients, synthesise the planes and only
-/// reads the coefficients, decode everything.
-pub struct Lent<'a> {
+/// The bytes and planes that a job may take. Unpack takes the bytes and the coefficients, synthesise the
+/// planes and only reads the coefficients, decode everything.
+pub struct Buffers<'a> {
     pub bytes: &'a [u8],
     pub coefficients: &'a mut [i32],
     pub work: &'a mut [i32],
@@ -64,17 +63,37 @@ pub struct Lent<'a> {
 }
 
 /// A decoder: runs a job.
-pub type Decoder = fn(&Parameters, Job, Lent) -> Answer;
+pub type Decoder = fn(&Parameters, Job, Buffers) -> Answer;
+
+/// The parameters as the proved library takes them.
+pub fn proved_parameters(p: &Parameters) -> kafsillun::Parameters {
+    kafsillun::Parameters {
+        width: p.width,
+        height: p.height,
+        depth: p.depth,
+        wavelet: p.wavelet,
+        intra: p.intra,
+        codeblocks_across: p.codeblocks_across,
+        codeblocks_down: p.codeblocks_down,
+    }
+}
 
 /// The proved library.
-pub fn proved(p: &Parameters, job: Job, lent: Lent) -> Answer {
+pub fn proved(p: &Parameters, job: Job, buffers: Buffers) -> Answer {
     let p = &proved_parameters(p);
     let result = match job {
-        Job::Unpack => kafsillun::unpack(p, lent.bytes, lent.coefficients),
+        Job::Unpack => kafsillun::unpack(p, buffers.bytes, buffers.coefficients),
         Job::Synthesise => {
-            kafsillun::synthesise(p, lent.coefficients, lent.work, lent.samples).map(|()| 0)
+            kafsillun::synthesise(p, buffers.coefficients, buffers.work, buffers.samples)
+                .map(|()| 0)
         }
-        Job::Decode => kafsillun::decode(p, lent.bytes, lent.coefficients, lent.work, lent.samples),
+        Job::Decode => kafsillun::decode(
+            p,
+            buffers.bytes,
+            buffers.coefficients,
+            buffers.work,
+            buffers.samples,
+        ),
     };
     match result {
         Ok(used) => Answer::accepted(used as u64),
@@ -83,15 +102,23 @@ pub fn proved(p: &Parameters, job: Job, lent: Lent) -> Answer {
 }
 
 /// The reference decoder.
-pub fn reference(p: &Parameters, job: Job, lent: Lent) -> Answer {
+pub fn reference(p: &Parameters, job: Job, buffers: Buffers) -> Answer {
     match job {
-        Job::Unpack => reference::unpack(p, lent.bytes, lent.coefficients),
-        Job::Synthesise => reference::synthesise(p, lent.coefficients, lent.work, lent.samples),
-        Job::Decode => reference::decode(p, lent.bytes, lent.coefficients, lent.work, lent.samples),
+        Job::Unpack => reference::unpack(p, buffers.bytes, buffers.coefficients),
+        Job::Synthesise => {
+            reference::synthesise(p, buffers.coefficients, buffers.work, buffers.samples)
+        }
+        Job::Decode => reference::decode(
+            p,
+            buffers.bytes,
+            buffers.coefficients,
+            buffers.work,
+            buffers.samples,
+        ),
     }
 }
 
-/// The memory that a job is lent, guard zones included.
+/// The memory that a job is buffers, guard zones included.
 #[derive(Clone, Debug, PartialEq, Eq)]
 struct Memory {
     bytes: Guarded<u8>,
@@ -115,9 +142,9 @@ impl Memory {
         }
     }
 
-    /// The parts to lend.
-    fn lend(&mut self) -> Lent<'_> {
-        Lent {
+    /// The parts that a job is given.
+    fn parts(&mut self) -> Buffers<'_> {
+        Buffers {
             bytes: self.bytes.part(),
             coefficients: self.coefficients.part_mut(),
             work: self.work.part_mut(),
@@ -126,7 +153,7 @@ impl Memory {
     }
 
     /// The first difference from the reference's memory.
-    fn difference(&self, reference: &Memory) -> Option<String> {
+    fn first_difference(&self, reference: &Memory) -> Option<String> {
         let planes = [
             ("coefficients", &self.coefficients, &reference.coefficients),
             ("work", &self.work, &reference.work),
@@ -145,15 +172,15 @@ fn difference_in<T: Entry + PartialEq + fmt::Display>(
     ours: &Guarded<T>,
     theirs: &Guarded<T>,
 ) -> Option<String> {
-    let (place, our_value, their_value) = ours.difference(theirs)?;
+    let (index, our_value, their_value) = ours.first_difference(theirs)?;
     let length = ours.part().len();
-    let zone = if (0..length as isize).contains(&place) {
+    let zone = if (0..length as isize).contains(&index) {
         ""
     } else {
         ", which lies in a guard zone,"
     };
     Some(format!(
-        "{name}, entry {place} of {length}{zone} is {our_value}, in the reference {their_value}"
+        "{name}, entry {index} of {length}{zone} is {our_value}, in the reference {their_value}"
     ))
 }
 
@@ -167,8 +194,8 @@ fn check_job(
     let p = &case.parameters;
     let mut ours = Memory::new(case, job, random);
     let mut theirs = ours.clone();
-    let our_answer = decoder(p, job, ours.lend());
-    let their_answer = reference(p, job, theirs.lend());
+    let our_answer = decoder(p, job, ours.parts());
+    let their_answer = reference(p, job, theirs.parts());
     if our_answer != their_answer {
         let what = format!(
             "the answer is status {} place {}, the reference's status {} place {}",
@@ -176,7 +203,7 @@ fn check_job(
         );
         return Err(Difference { job, what });
     }
-    match ours.difference(&theirs) {
+    match ours.first_difference(&theirs) {
         Some(what) => Err(Difference { job, what }),
         None => Ok(our_answer),
     }
@@ -198,7 +225,7 @@ pub fn check(case: &Case, decoder: Decoder) -> Result<Answers, Difference> {
     ])
 }
 
-/// What a job gave: its answer, and each plane that it was lent to write.
+/// What a job gave: its answer, and each plane that it may write.
 #[derive(Clone, Debug, PartialEq, Eq)]
 pub struct Outcome {
     pub answer: Answer,
@@ -225,13 +252,13 @@ pub fn results(case: &Case, decoder: Decoder) -> [Outcome; 3] {
     let mut random = rubbish_of(case);
     Job::ALL.map(|job| {
         let mut memory = Memory::new(case, job, &mut random);
-        let answer = decoder(&case.parameters, job, memory.lend());
+        let answer = decoder(&case.parameters, job, memory.parts());
         let planes = [
             ("coefficients", &memory.coefficients, job != Job::Synthesise),
             ("work", &memory.work, job != Job::Unpack),
             ("samples", &memory.samples, job != Job::Unpack),
         ];
-        let written = planes.into_iter().filter(|(_, _, is_lent)| *is_lent);
+        let written = planes.into_iter().filter(|(_, _, is_written)| *is_written);
         Outcome {
             answer,
             planes: written

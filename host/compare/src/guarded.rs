@@ -1,11 +1,11 @@
-//! Memory with guard zones around the part that a job is lent.
+//! Memory with guard zones around the part that a job is given.
 
-use reference::random::Random;
+use vectors::random::Random;
 
 /// The entries of each guard zone.
 const GUARD: usize = 24;
 
-/// A part to lend, between two guard zones.
+/// A part to be given to a job, between two guard zones.
 #[derive(Clone, Debug, PartialEq, Eq)]
 pub struct Guarded<T> {
     memory: Vec<T>,
@@ -47,12 +47,12 @@ impl<T: Entry> Guarded<T> {
         guarded
     }
 
-    /// The part to lend.
+    /// The part to give.
     pub fn part(&self) -> &[T] {
         &self.memory[self.start..self.memory.len() - GUARD]
     }
 
-    /// The part to lend, to be written.
+    /// The part to give, to be written.
     pub fn part_mut(&mut self) -> &mut [T] {
         let end = self.memory.len() - GUARD;
         &mut self.memory[self.start..end]
@@ -60,7 +60,7 @@ impl<T: Entry> Guarded<T> {
 
     /// The first entry of the whole memory that differs, counted from the part's start, and both
     /// values.
-    pub fn difference(&self, other: &Guarded<T>) -> Option<(isize, T, T)>
+    pub fn first_difference(&self, other: &Guarded<T>) -> Option<(isize, T, T)>
     where
         T: PartialEq,
     {
@@ -81,12 +81,12 @@ mod tests {
         let mut random = Random::new(1);
         let before = Guarded::holding(&mut random, &[1, 2, 3]);
         assert_eq!(before.part(), [1, 2, 3]);
-        assert_eq!(before.difference(&before.clone()), None);
-        for place in 0..before.memory.len() {
+        assert_eq!(before.first_difference(&before.clone()), None);
+        for index in 0..before.memory.len() {
             let mut after = before.clone();
-            after.memory[place] ^= 1;
-            let (found, old, new) = before.difference(&after).unwrap();
-            assert_eq!(found, place as isize - before.start as isize);
+            after.memory[index] ^= 1;
+            let (found, old, new) = before.first_difference(&after).unwrap();
+            assert_eq!(found, index as isize - before.start as isize);
             assert_eq!(old ^ new, 1);
         }
         let empty: Guarded<u8> = Guarded::rubbish(&mut random, 0);

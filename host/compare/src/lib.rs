@@ -1,6 +1,6 @@
 //! Compares the proved library with the reference decoder on a great many inputs.
 //!
-//! A [`Case`] is one component with everything that the three jobs are lent; its seed names it.
+//! A [`Case`] is one component with everything that the three jobs are given; its seed names it.
 //! [`check()`] runs the jobs in a decoder and the reference and compares status, place, every entry of
 //! every plane and the memory around them. [`Statistics`] tells what the cases reached.
 //! [`mod@round_trip`] has the proved library undo the reference's analysis. [`mod@work`] does either for
@@ -20,8 +20,8 @@ pub mod work;
 
 pub use case::{Case, Kind};
 pub use check::{
-    check, proved, reference, results, Answers, Decoder, Difference, Job, Lent, Outcome,
+    check, proved, proved_parameters, reference, results, Answers, Buffers, Decoder, Difference,
+    Job, Outcome,
 };
-pub use parameters::proved_parameters;
 pub use planes::{safe_size, PlaneKind};
 pub use statistics::Statistics;

@@ -5,6 +5,7 @@ use compare::work::{Failure, Work, ENOUGH_FAILURES};
 use compare::{check, proved, reference, results, Case, Job, Statistics};
 use std::process::ExitCode;
 use std::time::Instant;
+use vectors::command_line;
 
 const USAGE: &str = "usage: compare COUNT [SEED] [--threads N]
        compare --seed SEED --count COUNT [--threads N]
@@ -31,12 +32,12 @@ struct Request {
 }
 
 /// Reads the command line, or says what is wrong with it.
-fn read_request(words: &[String]) -> Result<Request, String> {
+fn read_request(words: &[&str]) -> Result<Request, String> {
     let mut round_trips = false;
     let (mut count, mut seed, mut threads) = (None, None, None);
     let mut words = words.iter();
     while let Some(word) = words.next() {
-        let (slot, value) = match word.as_str() {
+        let (slot, value) = match *word {
             "--round-trips" => {
                 round_trips = true;
                 continue;
@@ -49,10 +50,7 @@ fn read_request(words: &[String]) -> Result<Request, String> {
             _ => (&mut seed, Some(word)),
         };
         let value = value.ok_or(format!("{word} needs a number"))?;
-        let number: u64 = value
-            .parse()
-            .map_err(|_| format!("not a number below 2^64: {value}"))?;
-        if slot.replace(number).is_some() {
+        if slot.replace(command_line::number(value)?).is_some() {
             return Err(format!("one number too many: {value}"));
         }
     }
@@ -73,21 +71,9 @@ fn read_request(words: &[String]) -> Result<Request, String> {
 
 /// Runs the command.
 fn main() -> ExitCode {
-    // A word that isn't text is no number and no option.
-    let words: Vec<String> = std::env::args_os()
-        .skip(1)
-        .map(|word| word.to_string_lossy().into_owned())
-        .collect();
-    if words.iter().any(|word| word == "--help" || word == "-h") {
-        print!("{USAGE}");
-        return ExitCode::SUCCESS;
-    }
-    let request = match read_request(&words) {
+    let request = match command_line::read("compare", USAGE, read_request) {
         Ok(request) => request,
-        Err(error) => {
-            eprint!("compare: {error}\n\n{USAGE}");
-            return ExitCode::from(2);
-        }
+        Err(status) => return status,
     };
     let Request { round_trips, work } = request;
     let print_one = work.count == 1;

@@ -1,23 +1,10 @@
 //! Parameters at random, in range and out of range.
 
 use reference::params::Orientation::{HL, LL};
-use reference::params::{padded_area, subband, subbands};
-use reference::pieces;
-use reference::random::Random;
+use reference::params::{padded_area, subband_at, subbands};
 use reference::Parameters;
-
-/// The parameters as the proved library takes them.
-pub fn proved_parameters(p: &Parameters) -> kafsillun::Parameters {
-    kafsillun::Parameters {
-        width: p.width,
-        height: p.height,
-        depth: p.depth,
-        wavelet: p.wavelet,
-        intra: p.intra,
-        codeblocks_across: p.codeblocks_across,
-        codeblocks_down: p.codeblocks_down,
-    }
-}
+use vectors::pieces;
+use vectors::random::Random;
 
 /// Parameters in range with a depth from a least one on: most sizes small, some up to 70, and now and
 /// then the longest row or column.
@@ -29,12 +16,12 @@ pub fn random_parameters(random: &mut Random, least_depth: u32) -> Parameters {
         let (width, height) = random.pick(&[(4096, 1), (4095, 2), (1, 4096), (2, 4095)]);
         // A greater depth would pad them to many rows or columns.
         let depth = depth.min(least_depth.max(1));
-        return pieces::parameters(width, height, depth, wavelet, intra);
+        return pieces::plain(width, height, depth, wavelet, intra);
     }
     let (width, height) = (random_size(random), random_size(random));
-    let mut p = pieces::parameters(width, height, depth, wavelet, intra);
+    let mut p = pieces::plain(width, height, depth, wavelet, intra);
     for level in 0..=depth {
-        let band = subband(&p, level, if level == 0 { LL } else { HL });
+        let band = subband_at(&p, level, if level == 0 { LL } else { HL });
         p.codeblocks_across[level as usize] = random_count(random, band.width);
         p.codeblocks_down[level as usize] = random_count(random, band.height);
     }
@@ -50,7 +37,7 @@ pub fn row_parameters(random: &mut Random) -> Parameters {
     let wavelet = random.range(0, 6) as u32;
     // Prediction takes large values out of 32 bits.
     let intra = random.range(0, 3) == 0;
-    let mut p = pieces::parameters(width, height, depth, wavelet, intra);
+    let mut p = pieces::plain(width, height, depth, wavelet, intra);
     for level in 0..=depth as usize {
         p.codeblocks_across[level] = random.pick(&[1, 1, 1, 2, 3, 5]);
         p.codeblocks_down[level] = random.pick(&[1, 1, 1, 2]);
@@ -85,7 +72,7 @@ fn rectangle(random: &mut Random, width: u32, height: u32, depth: u32) -> Parame
     let wavelet = random.range(0, 6) as u32;
     // Prediction takes large values out of 32 bits.
     let intra = random.range(0, 3) == 0;
-    pieces::parameters(width, height, depth, wavelet, intra)
+    pieces::plain(width, height, depth, wavelet, intra)
 }
 
 /// Parameters of two codeblocks side by side, with about the longest rows that are read together, or any

@@ -1,13 +1,12 @@
 //! Coefficient planes at random: for synthesise, and through bodies for decode.
 
-use crate::bodies::{fill_subband, random_place};
-use reference::params::Orientation::{HH, HL, LH, LL};
-use reference::params::{
-    padded_area, padded_height, padded_width, subband, subbands, Parameters, Subband,
-};
-use reference::random::Random;
-use reference::transform::{interleave, shift_down, Grid, FILTERS};
+use crate::bodies::{fill_subband, random_entry};
+use reference::params::Orientation::{HH, HL, LH};
+use reference::params::{padded_area, padded_width, subband_at, subbands, Parameters, Subband};
+use reference::transform::{shift_down, Grid, FILTERS};
 use std::slice;
+use vectors::levels::{build_picture, halve};
+use vectors::random::Random;
 
 /// What a coefficient plane is made of.
 #[derive(Clone, Copy, Debug, PartialEq, Eq, PartialOrd, Ord)]
@@ -92,36 +91,36 @@ fn plane_of_bits(random: &mut Random, p: &Parameters, bits: i64) -> Vec<i32> {
 
 /// An extreme of 32 bits or nearly one.
 fn extreme(random: &mut Random) -> i32 {
-    let near = random.range(0, 2) as i32;
+    let inside = random.range(0, 2) as i32;
     if random.flag() {
-        i32::MAX - near
+        i32::MAX - inside
     } else {
-        i32::MIN + near
+        i32::MIN + inside
     }
 }
 
-/// Coefficients that are small but for extremes at one level, at one place or more or everywhere; the
+/// Coefficients that are small but for extremes at one level, at one position or more or everywhere; the
 /// depth must not be 0.
 pub fn extreme_at_a_level(random: &mut Random, p: &Parameters) -> Vec<i32> {
     let bits = random.range(1, 12);
     let mut plane = plane_of_bits(random, p, bits);
     let level = random.range(1, i64::from(p.depth)) as u32;
-    let bands = [HL, LH, HH].map(|orientation| subband(p, level, orientation));
+    let bands = [HL, LH, HH].map(|orientation| subband_at(p, level, orientation));
     match random.range(0, 3) {
         0 => {
             for _ in 0..random.range(1, 4) {
                 let band = random.pick(&bands);
-                plane[random_place(random, p, &band)] = extreme(random);
+                plane[random_entry(random, p, &band)] = extreme(random);
             }
         }
         1 => {
-            // The same place of all three, alike or not.
-            let first = random_place(random, p, &bands[0]);
+            // The same position of all three, alike or not.
+            let first = random_entry(random, p, &bands[0]);
             let value = extreme(random);
             let alike = random.flag();
             for band in bands {
-                let place = first + band.left + band.top * padded_width(p) - bands[0].left;
-                plane[place] = if alike { value } else { extreme(random) };
+                let entry = first + band.left + band.top * padded_width(p) - bands[0].left;
+                plane[entry] = if alike { value } else { extreme(random) };
             }
         }
         _ => {
@@ -173,8 +172,8 @@ pub fn safe_size(wavelet: u32) -> i64 {
 /// 2^14 the numbers of one step or another come to leave the 15 bits whose products are cheap.
 fn random_size(random: &mut Random, wavelet: u32) -> i32 {
     let power = 1 << random.range(10, 31);
-    let near = random.pick(&[power, power, safe_size(wavelet), 1 << 16]);
-    let size = near + random.range(-3, 3);
+    let border = random.pick(&[power, power, safe_size(wavelet), 1 << 16]);
+    let size = border + random.range(-3, 3);
     size.min(i32::MAX.into()) as i32
 }
 
@@ -194,7 +193,7 @@ fn plane_of_size(random: &mut Random, p: &Parameters) -> Vec<i32> {
             plane = plane_of_bits(random, p, bits);
             let bands = subbands(p);
             let band: Subband = random.pick(&bands);
-            plane[random_place(random, p, &band)] = of_size(random, size);
+            plane[random_entry(random, p, &band)] = of_size(random, size);
         }
         1 => {
             for band in subbands(p) {
@@ -226,17 +225,9 @@ fn plane_of_size(random: &mut Random, p: &Parameters) -> Vec<i32> {
 /// The size of the largest number that synthesis assigns, with a number below 0 as large as its
 /// complement: 2^31 - 1 is the most that fits.
 fn largest_assigned(p: &Parameters, coefficients: &[i32]) -> i128 {
-    let plane = Grid {
-        width: padded_width(p),
-        height: padded_height(p),
-        numbers: coefficients.iter().map(|&c| i128::from(c)).collect(),
-    };
     let filter = &FILTERS[p.wavelet as usize];
-    let mut picture = plane.subband(&subband(p, 0, LL));
     let mut largest = 0;
-    for level in 1..=p.depth {
-        let [hl, lh, hh] = [HL, LH, HH].map(|band| plane.subband(&subband(p, level, band)));
-        picture = interleave(&picture, &hl, &lh, &hh);
+    build_picture(p, coefficients, |mut picture| {
         for filter_lines in [Grid::filter_columns, Grid::filter_rows] {
             for step in filter.steps {
                 filter_lines(&mut picture, slice::from_ref(step));
@@ -244,12 +235,9 @@ fn largest_assigned(p: &Parameters, coefficients: &[i32]) -> i128 {
                 largest = sizes.fold(largest, i128::max);
             }
         }
-        if filter.shift == 1 {
-            for number in &mut picture.numbers {
-                *number = shift_down(*number);
-            }
-        }
-    }
+        halve(filter, &mut picture, shift_down);
+        picture
+    });
     largest
 }
 
@@ -265,8 +253,8 @@ fn plane_at_the_brink(random: &mut Random, p: &Parameters) -> Vec<i32> {
     let largest = largest_assigned(p, &plane).max(1);
     let aim = i128::from(i32::MAX) + i128::from(random.range(-4, 4));
     let scaled = |&c: &i32| (i128::from(c) * aim).div_euclid(largest);
-    let held = |c: i128| c.clamp(i32::MIN.into(), i32::MAX.into()) as i32;
-    plane.iter().map(scaled).map(held).collect()
+    let clamped = |c: i128| c.clamp(i32::MIN.into(), i32::MAX.into()) as i32;
+    plane.iter().map(scaled).map(clamped).collect()
 }
 
 #[cfg(test)]
@@ -290,7 +278,7 @@ mod tests {
 
     #[test]
     fn the_largest_number_of_a_synthesis_is_found() {
-        let p = reference::pieces::parameters(2, 2, 1, 3, false);
+        let p = vectors::pieces::plain(2, 2, 1, 3, false);
         // Haar without a shift: 5 - floor((8 + 1) / 2) = 1, 8 + 1 = 9, down and then across.
         assert_eq!(largest_assigned(&p, &[5, 0, 8, 0]), 9);
         assert_eq!(largest_assigned(&p, &[-6, 0, 0, 0]), 5);

@@ -6,8 +6,8 @@ use crate::borders::{
     body_of_bands, number_of_code, number_that_fits, put_runs, with_other_data, with_other_end,
 };
 use reference::params::{padded_width, Parameters, Subband};
-use reference::random::Random;
 use reference::unpack::codeblock_start;
+use vectors::random::Random;
 
 /// The widest rows that are read as one run.
 const SHORT_ROW: usize = 64;
@@ -15,11 +15,11 @@ const SHORT_ROW: usize = 64;
 /// From this quantiser index on, numbers are chosen so that they fit 32 bits.
 const LARGE_INDEX: u32 = 104;
 
-/// The rows that are read as one run, each the places of its values in the coefficient plane.
-type Run = Vec<Vec<usize>>;
+/// The rows that are read as one run, each the indices of its values in the coefficient plane.
+type RowsOfRun = Vec<Vec<usize>>;
 
 /// The runs of a subband's values, in the order in which they are read.
-fn runs(p: &Parameters, band: &Subband) -> Vec<Run> {
+fn runs(p: &Parameters, band: &Subband) -> Vec<RowsOfRun> {
     let across = p.codeblocks_across[band.level as usize] as usize;
     let down = p.codeblocks_down[band.level as usize] as usize;
     let span =
@@ -27,7 +27,7 @@ fn runs(p: &Parameters, band: &Subband) -> Vec<Run> {
     let mut list = Vec::new();
     for block in 0..across * down {
         let columns = span(band.width, block % across, across);
-        let rows: Run = span(band.height, block / across, down)
+        let rows: RowsOfRun = span(band.height, block / across, down)
             .map(|y| (band.top + y) * padded_width(p) + band.left)
             .map(|start| (start + columns.start..start + columns.end).collect())
             .collect();
@@ -50,53 +50,53 @@ fn random_number(random: &mut Random, index: u32) -> i64 {
 }
 
 /// Puts numbers at the ends of rows alone.
-fn put_row_ends(random: &mut Random, run: &Run, index: u32, quantised: &mut [i64]) {
+fn put_row_ends(random: &mut Random, run: &RowsOfRun, index: u32, quantised: &mut [i64]) {
     for row in run {
-        for place in [row[0], row[row.len() - 1]] {
+        for entry in [row[0], row[row.len() - 1]] {
             if random.range(0, 3) > 0 {
-                quantised[place] = random_number(random, index);
+                quantised[entry] = random_number(random, index);
             }
         }
     }
 }
 
-/// Puts numbers with runs of zeros between them up to one near the end; none where that has no place.
-fn put_numbers(random: &mut Random, run: &Run, index: u32, quantised: &mut [i64]) {
-    let places = run.concat();
+/// Puts numbers with runs of zeros between them up to one near the end; none where there is no room.
+fn put_numbers(random: &mut Random, run: &RowsOfRun, index: u32, quantised: &mut [i64]) {
+    let indices = run.concat();
     let tail = random.range(0, 19) as usize;
-    let Some(last) = places.len().checked_sub(1 + tail) else {
+    let Some(last) = indices.len().checked_sub(1 + tail) else {
         return;
     };
-    put_runs(random, &places[..last], quantised, |random| {
+    put_runs(random, &indices[..last], quantised, |random| {
         random_number(random, index)
     });
-    quantised[places[last]] = random_number(random, index);
+    quantised[indices[last]] = random_number(random, index);
 }
 
 /// Puts a number with a long code, so that a reader takes up the data anew behind it, where 1 to 35 values
 /// are left; they are zeros, or zeros but for one of the last two.
-fn put_tail(random: &mut Random, run: &Run, index: u32, quantised: &mut [i64]) {
-    let places = run.concat();
-    let (near, any) = (random.range(31, 33), random.range(1, 35));
-    let left = random.pick(&[near, any, any]) as usize;
-    let Some(before) = places.len().checked_sub(1 + left) else {
+fn put_tail(random: &mut Random, run: &RowsOfRun, index: u32, quantised: &mut [i64]) {
+    let indices = run.concat();
+    let (about_32, any) = (random.range(31, 33), random.range(1, 35));
+    let left = random.pick(&[about_32, any, any]) as usize;
+    let Some(before) = indices.len().checked_sub(1 + left) else {
         return;
     };
     let number = match index {
         LARGE_INDEX.. => number_that_fits(random, index),
         _ => number_of_code(random, 10),
     };
-    quantised[places[before]] = number;
+    quantised[indices[before]] = number;
     let from_end = random.range(-2, 2);
     if (1..=left as i64).contains(&from_end) {
-        quantised[places[places.len() - from_end as usize]] = random_number(random, index);
+        quantised[indices[indices.len() - from_end as usize]] = random_number(random, index);
     }
 }
 
-/// Puts a number at every place.
-fn put_everywhere(random: &mut Random, run: &Run, index: u32, quantised: &mut [i64]) {
-    for &place in run.iter().flatten() {
-        quantised[place] = random_number(random, index);
+/// Puts a number at every entry.
+fn put_everywhere(random: &mut Random, run: &RowsOfRun, index: u32, quantised: &mut [i64]) {
+    for &entry in run.iter().flatten() {
+        quantised[entry] = random_number(random, index);
     }
 }
 

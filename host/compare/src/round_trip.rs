@@ -3,13 +3,14 @@
 //! Wherever every number that analysis assigns fits 32 bits, synthesis must be accepted and give the
 //! plane back (document 01, "Synthesis and analysis").
 
-use crate::parameters::{proved_parameters, random_parameters};
+use crate::check::proved_parameters;
+use crate::parameters::random_parameters;
 use crate::planes::number_of_bits;
 use crate::work::Tally;
 use reference::params::{padded_area, padded_height, padded_width, sample_area};
-use reference::random::Random;
 use reference::Parameters;
 use std::fmt;
+use vectors::random::Random;
 
 /// A padded plane to analyse.
 #[derive(Clone, Debug)]
@@ -72,7 +73,7 @@ impl RoundTrip {
             .position(|(a, b)| *a != b)
         {
             None => Ok(true),
-            Some(place) => Err(format!("sample {place} did not come back")),
+            Some(index) => Err(format!("sample {index} did not come back")),
         }
     }
 

@@ -1,14 +1,13 @@
 //! Streams of pictures at random, named by a seed.
 
+use crate::eligibility::Setting;
 use crate::stream::{BitDepth, Stream, COMPONENTS};
-use crate::vouch::Setting;
-use reference::encode::{
-    encode_body, encode_coefficients, picture_coefficients, EncodeOptions, SubbandOptions,
-};
+use reference::encode::{encode_body, EncodeOptions, SubbandOptions};
 use reference::params::{padded_area, padded_width, sample_area, subbands};
-use reference::pieces::{parameters, random_options};
-use reference::random::Random;
 use reference::Parameters;
+use vectors::pictures::{encode_coefficients, picture_coefficients};
+use vectors::pieces::{plain, random_options};
+use vectors::random::Random;
 
 /// How many pictures a stream has.
 pub const PICTURES: usize = 8;
@@ -41,7 +40,7 @@ impl Case {
     }
 
     /// The Dirac stream.
-    pub fn stream(&self) -> Vec<u8> {
+    pub fn dirac_stream(&self) -> Vec<u8> {
         let p = &self.pictures[0].parameters;
         let mut stream = Stream::new(p.width, p.height, self.setting.bit_depth);
         for (number, picture) in self.pictures.iter().enumerate() {
@@ -88,7 +87,7 @@ fn random_parameters(random: &mut Random, width: u32, height: u32, setting: Sett
     let wavelet = random.range(0, last_wavelet) as u32;
     let most = width.min(height).ilog2().min(4);
     let depth = random.range(1, most.into()) as u32;
-    let mut p = parameters(width, height, depth, wavelet, true);
+    let mut p = plain(width, height, depth, wavelet, true);
     while setting.simd && padded_width(&p) >> (p.depth - 1) < 8 {
         p.depth -= 1;
     }
@@ -120,9 +119,9 @@ fn random_body(random: &mut Random, p: &Parameters, bit_depth: BitDepth) -> Vec<
             .collect(),
     };
     if random.range(0, 2) == 0 {
-        let spread = random.pick(&[1, 2, 9, 40]);
+        let bound = random.pick(&[1, 2, 9, 40]);
         let plane: Vec<i64> = (0..padded_area(p))
-            .map(|_| i64::from(random.flag()) * random.range(-spread, spread))
+            .map(|_| i64::from(random.flag()) * random.range(-bound, bound))
             .collect();
         return encode_body(p, &plane, &options);
     }
@@ -170,7 +169,7 @@ fn slope_and_edge(random: &mut Random, p: &Parameters, magnitude: i64) -> Vec<i6
 /// value of LL along its only row.
 fn factors_case(random: &mut Random, seed: u64) -> Case {
     let width = 2 * random.range(1, 20) as u32;
-    let p = parameters(width, 2, 1, 3, true);
+    let p = plain(width, 2, 1, 3, true);
     let mut body = || {
         let index = random.range(0, 111) as u64;
         let sign = if random.flag() { 1 } else { -1 };

@@ -1,8 +1,8 @@
 //! The comparison of cases, and what it counts.
 
 use crate::case::{Case, Picture};
+use crate::eligibility::{expected_samples, is_clipped, Aside, Expected, Setting};
 use crate::stream::{BitDepth, COMPONENTS};
-use crate::vouch::{is_clipped, owed, Aside, Owed, Setting};
 use crate::{peer, proved};
 use reference::params::sample_area;
 use reference::Parameters;
@@ -64,8 +64,8 @@ impl Counts {
     }
 
     /// Counts one that was compared in this many of its samples.
-    fn add(&mut self, p: &Parameters, setting: Setting, owed: &Owed, samples: usize) {
-        if samples == owed.samples.len() {
+    fn add(&mut self, p: &Parameters, setting: Setting, expected: &Expected, samples: usize) {
+        if samples == expected.samples.len() {
             self.whole += 1;
         } else {
             self.in_part += 1;
@@ -126,7 +126,7 @@ impl fmt::Display for Counts {
 pub fn compare(case: &Case, counts: &mut Counts) -> Result<Vec<Difference>, String> {
     let samples = sample_area(&case.pictures[0].parameters);
     let Setting { bit_depth, simd } = case.setting;
-    let found = peer::decode(&case.stream(), samples, bit_depth, simd)?;
+    let found = peer::decode(&case.dirac_stream(), samples, bit_depth, simd)?;
     compare_with(case, &found, counts)
 }
 
@@ -166,32 +166,32 @@ fn compare_component(
     counts: &mut Counts,
 ) -> Option<String> {
     let p = &picture.parameters;
-    let owed = proved::decode(p, &picture.bodies[component])
+    let expected = proved::decode(p, &picture.bodies[component])
         .map_err(|_| Aside::Refused)
-        .and_then(|decoded| owed(p, setting, decoded));
-    let owed = match owed {
-        Ok(owed) => owed,
+        .and_then(|decoded| expected_samples(p, setting, decoded));
+    let expected = match expected {
+        Ok(expected) => expected,
         Err(aside) => {
             counts.aside[aside as usize] += 1;
             return None;
         }
     };
     let offset = setting.bit_depth.offset();
-    let pairs = owed.samples.iter().zip(found).enumerate();
-    let shown = pairs.filter(|(_, (&owed, _))| !is_clipped(owed, setting.bit_depth));
+    let pairs = expected.samples.iter().zip(found).enumerate();
+    let shown = pairs.filter(|(_, (&ours, _))| !is_clipped(ours, setting.bit_depth));
     let mut samples = 0;
     let mut difference = None;
-    for (place, (&owed, &found)) in shown {
+    for (index, (&ours, &found)) in shown {
         samples += 1;
-        if owed + offset != found && difference.is_none() {
-            let (x, y) = (place % p.width as usize, place / p.width as usize);
+        if ours + offset != found && difference.is_none() {
+            let (x, y) = (index % p.width as usize, index / p.width as usize);
             let found = found - offset;
             difference = Some(format!(
-                "column {x}, row {y}: {owed} owed, FFmpeg has {found}"
+                "column {x}, row {y}: {ours} expected, FFmpeg has {found}"
             ));
         }
     }
-    counts.add(p, setting, &owed, samples);
+    counts.add(p, setting, &expected, samples);
     counts.different += u64::from(difference.is_some());
     difference
 }

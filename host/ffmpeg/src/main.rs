@@ -5,12 +5,13 @@ use ffmpeg::compare::{compare, Counts};
 use ffmpeg::peer;
 use std::process::ExitCode;
 use std::time::Instant;
+use vectors::command_line::{self, number};
 
 const USAGE: &str = "usage: compare-ffmpeg COUNT [SEED]
 
 Wraps COUNT components into Dirac streams of 24 (8 pictures of 3 components), has
 the ffmpeg command decode them and compares its samples with those of the proved
-library, where FFmpeg can vouch for them: docs/FFMPEG.md says where. The streams
+library, where these can confirm them: docs/FFMPEG.md says where. The streams
 are made from the seeds SEED (1 where none is given), SEED + 1 and on; with a COUNT
 of 24 one is repeated.
 
@@ -20,12 +21,8 @@ Exit status: 0 no difference; 1 a difference, or FFmpeg gave no picture; 2 a wro
 command line, or no FFmpeg.
 ";
 
-/// The numbers of the command line, or what is wrong with it.
-fn read_request(words: &[String]) -> Result<(u64, u64), String> {
-    let number = |word: &String| {
-        word.parse::<u64>()
-            .map_err(|_| format!("not a number below 2^64: {word}"))
-    };
+/// How many components, and the first seed; or what is wrong with the command line.
+fn read_request(words: &[&str]) -> Result<(u64, u64), String> {
     match words {
         [count] => Ok((number(count)?, 1)),
         [count, seed] => Ok((number(count)?, number(seed)?)),
@@ -62,32 +59,14 @@ fn run(count: u64, first: u64) -> bool {
 
 /// Runs the command.
 fn main() -> ExitCode {
-    // A word that isn't text is no number and no option.
-    let words: Vec<String> = std::env::args_os()
-        .skip(1)
-        .map(|word| word.to_string_lossy().into_owned())
-        .collect();
-    if words.iter().any(|word| word == "--help" || word == "-h") {
-        print!("{USAGE}");
-        return ExitCode::SUCCESS;
-    }
-    let (count, first) = match read_request(&words) {
-        Ok(request) => request,
-        Err(error) => {
-            eprint!("compare-ffmpeg: {error}\n\n{USAGE}");
-            return ExitCode::from(2);
-        }
-    };
-    match peer::version() {
-        Ok(version) => println!("{version}"),
-        Err(error) => {
-            eprint!("compare-ffmpeg: {error}\n\n{USAGE}");
-            return ExitCode::from(2);
-        }
-    }
-    if run(count, first) {
-        ExitCode::SUCCESS
-    } else {
-        ExitCode::from(1)
+    let request = command_line::read("compare-ffmpeg", USAGE, |words| {
+        let request = read_request(words)?;
+        println!("{}", peer::version()?);
+        Ok(request)
+    });
+    match request {
+        Ok((count, first)) if run(count, first) => ExitCode::SUCCESS,
+        Ok(_) => ExitCode::from(1),
+        Err(status) => status,
     }
 }

@@ -1,6 +1,6 @@
 //! The proved library, called with the reference's parameters.
 
-pub use compare::proved_parameters;
+use compare::proved_parameters;
 use kafsillun::Error;
 use reference::params::{padded_area, sample_area};
 use reference::Parameters;

@@ -1,6 +1,6 @@
 //! The declarations of `include/kafsillun.h` in Rust.
 //!
-//! Nothing but tests holds them to the archive: those below hold them to the header, and those in
+//! Nothing but tests ties them to the archive: those below compare them with the header, and those in
 //! `tests/fields.rs` call the library so that every field matters.
 
 /// `KafsillunParameters`.
@@ -67,8 +67,8 @@ mod tests {
     use std::path::{Path, PathBuf};
     use std::process::Command;
 
-    /// A C program that holds the header's functions to the types declared above, and prints the size
-    /// and alignment of each struct, the place and size of each of its fields, and every status.
+    /// A C program that gives the header's functions the types declared above, and prints the size
+    /// and alignment of each struct, the offset and size of each of its fields, and every status.
     const LAYOUT: &str = r#"
         #include <stddef.h>
         #include <stdio.h>

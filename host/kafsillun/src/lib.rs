@@ -5,7 +5,7 @@
 //! padding. There are three jobs: [`unpack`] makes coefficients of bytes, [`synthesise`] makes samples
 //! of coefficients, [`decode`] does both.
 //!
-//! Data are planes of `i32` that the caller lends. A coefficient or work plane needs exactly
+//! Data are planes of `i32` that the caller provides. A coefficient or work plane needs exactly
 //! [`Parameters::padded_area`] entries, a sample plane exactly [`Parameters::sample_area`]; what they
 //! hold before the call doesn't matter.
 //!

@@ -64,7 +64,7 @@ impl<'a> BitReader<'a> {
 
     /// The next signed number, or status 6 or 7 (document 01, "Number codes").
     pub fn signed_number(&mut self) -> Result<i64, u32> {
-        let magnitude = self.number()? as i64;
+        let magnitude = i64::try_from(self.number()?).expect("at most 31 data bits");
         if magnitude != 0 && self.bit()? == 1 {
             Ok(-magnitude)
         } else {
@@ -101,9 +101,9 @@ impl BitWriter {
     /// codes").
     pub fn number(&mut self, number: u64) {
         let v = u128::from(number) + 1;
-        for place in (0..v.ilog2()).rev() {
+        for bit in (0..v.ilog2()).rev() {
             self.bit(false);
-            self.bit(v >> place & 1 == 1);
+            self.bit(v >> bit & 1 == 1);
         }
         self.bit(true);
     }

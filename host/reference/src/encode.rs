@@ -2,12 +2,10 @@
 //!
 //! [`encode_body`] writes a plane of quantised numbers as they are; [`quantise_plane`] makes such a
 //! plane from coefficients. With every quantiser index 0, unpacking the body of the quantised plane
-//! gives the coefficients back exactly. [`picture_coefficients`] and [`encode_coefficients`] make a body
-//! of a picture. All need parameters in range and panic otherwise.
+//! gives the coefficients back exactly. Both need parameters in range and panic otherwise.
 
-use crate::analyse;
 use crate::codes::BitWriter;
-use crate::params::{padded_area, padded_height, padded_width, subbands, Parameters, Subband};
+use crate::params::{padded_area, padded_width, subbands, Parameters, Subband};
 use crate::unpack::{codeblock_start, dequantise, prediction, quantiser_factor};
 
 /// How one subband is written.
@@ -174,7 +172,8 @@ pub enum Rounding {
 /// A value quantised with an index 0..115.
 pub fn quantise(value: i64, index: u32, rounding: Rounding) -> i64 {
     let magnitude = i128::from(value).abs();
-    let floor = (4 * magnitude / i128::from(quantiser_factor(index))) as i64;
+    let floor = i64::try_from(4 * magnitude / i128::from(quantiser_factor(index)))
+        .expect("the factor is 4 or more");
     let m = match rounding {
         Rounding::Floor => floor,
         Rounding::Nearest => (0.max(floor - 1)..=floor + 1)
@@ -207,52 +206,19 @@ pub fn quantise_plane(
     for (band, &index) in bands.iter().zip(indices) {
         for y in 0..band.height {
             for x in 0..band.width {
-                let place = (band.top + y) * row_width + band.left + x;
+                let entry = (band.top + y) * row_width + band.left + x;
                 let predicted = if p.intra && band.level == 0 {
                     prediction(x, y, |x, y| unpacked[y * row_width + x])
                 } else {
                     0
                 };
-                let residual = i64::from(coefficients[place]) - predicted;
-                quantised[place] = quantise(residual, index, rounding);
-                unpacked[place] = dequantise(quantised[place], index) as i64 + predicted;
+                let residual = i64::from(coefficients[entry]) - predicted;
+                quantised[entry] = quantise(residual, index, rounding);
+                let value = i64::try_from(dequantise(quantised[entry], index))
+                    .expect("a value near a coefficient");
+                unpacked[entry] = value + predicted;
             }
         }
     }
     quantised
-}
-
-/// The body of a coefficient plane, each subband quantised with the index of its options, which must
-/// be in range, to the nearest value.
-pub fn encode_coefficients(
-    p: &Parameters,
-    coefficients: &[i32],
-    options: &EncodeOptions,
-) -> Vec<u8> {
-    let indices: Vec<u32> = options
-        .subbands
-        .iter()
-        .map(|options| options.quantiser as u32)
-        .collect();
-    let quantised = quantise_plane(p, coefficients, &indices, Rounding::Nearest);
-    encode_body(p, &quantised, options)
-}
-
-/// The coefficients of a picture: its samples, repeated into the padding, analysed. They must fit 32
-/// bits.
-pub fn picture_coefficients(p: &Parameters, samples: &[i64]) -> Vec<i32> {
-    let (width, height) = (p.width as usize, p.height as usize);
-    let mut plane = Vec::new();
-    for y in 0..padded_height(p) {
-        for x in 0..padded_width(p) {
-            let sample = samples[y.min(height - 1) * width + x.min(width - 1)];
-            plane.push(i128::from(sample));
-        }
-    }
-    let analysis = analyse(p, &plane).expect("parameters in range");
-    analysis
-        .coefficients
-        .iter()
-        .map(|&c| i32::try_from(c).expect("a coefficient in range"))
-        .collect()
 }

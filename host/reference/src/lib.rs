@@ -1,29 +1,20 @@
 //! A plain reference decoder for Dirac wavelet pictures.
 //!
 //! It states the rules of document 01 as directly as it can, and is used to judge other decoders:
-//! clarity comes before speed. Intermediate numbers are held in 64 or 128 bits and never wrap.
+//! clarity comes before speed. Intermediate numbers have 64 or 128 bits and never wrap.
 //!
 //! The three jobs are [`unpack()`], [`synthesise`] and [`decode`]; [`analyse`] is the forward
 //! transform; [`mod@encode`] makes bodies for tests; [`recording`] reads and writes recordings;
-//! [`jobs`] is the command's plain text job format; [`vectors`] and [`mod@unpack_vectors`] make stored
-//! vectors for synthesise and unpack, [`recording_vectors`] and [`samples`] stored recordings, with the
-//! generator [`random`] and the [`pieces`] they share.
+//! [`jobs`] is the command's plain text job format. It depends on nothing: what chooses stored jobs and
+//! recordings is the crate `vectors` above it.
 
 pub mod codes;
 pub mod encode;
 pub mod jobs;
 pub mod params;
-pub mod pieces;
-pub mod random;
 pub mod recording;
-pub mod recording_vectors;
-pub mod refused_recordings;
-pub mod samples;
 pub mod transform;
 pub mod unpack;
-pub mod unpack_vectors;
-pub mod vectors;
-pub mod wrong_tables;
 
 pub use encode::{encode_body, quantise, quantise_plane, EncodeOptions, Rounding, SubbandOptions};
 pub use params::{Answer, Parameters};

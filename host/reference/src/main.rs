@@ -1,24 +1,13 @@
-//! The command: decodes a recording, answers the jobs of a text file, or writes stored vectors and
-//! recordings.
+//! The command: decodes a recording, or answers the jobs of a text file.
 
-use reference::recording_vectors::{recordings, Recording};
-use reference::samples::samples;
-use reference::vectors::Vectors;
 use std::io::Write;
-use std::path::Path;
 use std::process::ExitCode;
 
-const USAGE: &str = "usage: reference COMMAND PATH..
+const USAGE: &str = "usage: reference COMMAND FILE
 
   reference decode FILE    print what a recording decodes to
   reference jobs FILE      answer the unpack, synthesise and decode jobs of a text file
   reference analyse FILE   answer the analyse jobs of a text file
-  reference synthesis-vectors STDIN_FILE STDOUT_FILE
-                           write the input of crates/synthesis_vectors and the output it owes
-  reference unpack-vectors STDIN_FILE STDOUT_FILE
-                           the same for crates/unpack_vectors
-  reference recordings DIR write vectors/recordings: recordings and what they decode to
-  reference samples DIR    the same for samples
 
 A job file has one job a line; # starts a comment:
 
@@ -32,10 +21,10 @@ A job file has one job a line; # starts a comment:
 Numbers are decimal; BYTES is hexadecimal, or - for none. A and D are codeblocks
 across and down at levels 0 to 4. Planes start filled with 7.
 
-Exit status: 0 done, 1 a file cannot be read or written, 2 a wrong command line.
+Exit status: 0 done, 1 a file cannot be read, 2 a wrong command line.
 ";
 
-/// Runs the command; the exit status is 0, 1 (cannot read or write) or 2 (usage).
+/// Runs the command; the exit status is 0, 1 (cannot read) or 2 (usage).
 fn main() -> ExitCode {
     // A word that isn't text stands for no command and names no file.
     let arguments: Vec<String> = std::env::args_os()
@@ -48,14 +37,6 @@ fn main() -> ExitCode {
         ["decode", file] => read(file).map(|bytes| reference::read_recording(&bytes)),
         ["jobs", file] => run(file, reference::jobs::run_jobs),
         ["analyse", file] => run(file, reference::jobs::run_analyses),
-        ["synthesis-vectors", stdin, stdout] => {
-            write_vectors(&reference::vectors::synthesis_vectors(), stdin, stdout)
-        }
-        ["unpack-vectors", stdin, stdout] => {
-            write_vectors(&reference::unpack_vectors::unpack_vectors(), stdin, stdout)
-        }
-        ["recordings", folder] => write_recordings(&recordings(), folder),
-        ["samples", folder] => write_recordings(&samples(), folder),
         _ => {
             eprint!("{USAGE}");
             return ExitCode::from(2);
@@ -85,28 +66,4 @@ fn run(file: &str, jobs: fn(&str) -> Result<String, String>) -> Result<String, S
     let bytes = read(file)?;
     let text = String::from_utf8(bytes).map_err(|_| format!("{file}: not text"))?;
     jobs(&text).map_err(|error| format!("{file}: {error}"))
-}
-
-/// Writes the stored vectors' input and output, and prints nothing; or why a file cannot be written.
-fn write_vectors(vectors: &Vectors, stdin: &str, stdout: &str) -> Result<String, String> {
-    write(stdin.as_ref(), &vectors.input)?;
-    write(stdout.as_ref(), vectors.output.as_bytes())?;
-    Ok(String::new())
-}
-
-/// Writes each recording and its text into a folder, which is made where it is missing, and prints
-/// nothing; or why a file cannot be written.
-fn write_recordings(recordings: &[Recording], folder: &str) -> Result<String, String> {
-    std::fs::create_dir_all(folder).map_err(|error| format!("{folder}: {error}"))?;
-    for recording in recordings {
-        let file = |ending| Path::new(folder).join(format!("{}.{ending}", recording.name));
-        write(&file("rec"), &recording.file)?;
-        write(&file("txt"), recording.text().as_bytes())?;
-    }
-    Ok(String::new())
-}
-
-/// Writes a file, or why it cannot be written.
-fn write(file: &Path, bytes: &[u8]) -> Result<(), String> {
-    std::fs::write(file, bytes).map_err(|error| format!("{}: {error}", file.display()))
 }

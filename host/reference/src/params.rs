@@ -31,7 +31,7 @@ pub const BAD_RECORDING: u32 = 11;
 /// The largest quantiser index that is accepted.
 pub const MAX_QUANTISER: u64 = 115;
 
-/// What a picture is decoded with. The fields can hold values out of range.
+/// What a picture is decoded with. The fields may have values out of range.
 #[derive(Clone, Debug, PartialEq, Eq)]
 pub struct Parameters {
     pub width: u32,
@@ -167,7 +167,7 @@ pub struct Subband {
 }
 
 /// One subband (document 01, "Sizes and the coefficient plane").
-pub fn subband(p: &Parameters, level: u32, orientation: Orientation) -> Subband {
+pub fn subband_at(p: &Parameters, level: u32, orientation: Orientation) -> Subband {
     let halvings = if level == 0 {
         p.depth
     } else {
@@ -193,10 +193,10 @@ pub fn subband(p: &Parameters, level: u32, orientation: Orientation) -> Subband 
 
 /// All subbands in stream order (document 01, "Sizes and the coefficient plane").
 pub fn subbands(p: &Parameters) -> Vec<Subband> {
-    let mut list = vec![subband(p, 0, Orientation::LL)];
+    let mut list = vec![subband_at(p, 0, Orientation::LL)];
     for level in 1..=p.depth {
         for orientation in [Orientation::HL, Orientation::LH, Orientation::HH] {
-            list.push(subband(p, level, orientation));
+            list.push(subband_at(p, level, orientation));
         }
     }
     list

@@ -1,10 +1,11 @@
 //! Lifting filters, synthesis and analysis.
 //!
-//! States document 01, "Lifting" and "Synthesis and analysis". All numbers are held in 128 bits and
+//! States document 01, "Lifting" and "Synthesis and analysis". All numbers have 128 bits and
 //! all sums are checked: a number too large even for that panics, none wraps.
 
 use crate::params::{
-    padded_height, padded_width, subband, Answer, Orientation, Parameters, Subband, SYNTHESIS_RANGE,
+    padded_height, padded_width, subband_at, Answer, Orientation, Parameters, Subband,
+    SYNTHESIS_RANGE,
 };
 
 /// The four types of lifting step.
@@ -59,7 +60,12 @@ pub struct Filter {
 }
 
 /// A step from its type, first offset, taps and scale.
-const fn step(step_type: StepType, first_offset: i64, taps: &'static [i128], scale: u32) -> Step {
+const fn lifting_step(
+    step_type: StepType,
+    first_offset: i64,
+    taps: &'static [i128],
+    scale: u32,
+) -> Step {
     Step {
         step_type,
         first_offset,
@@ -76,58 +82,58 @@ pub const FILTERS: [Filter; 7] = [
     // 0: Deslauriers-Dubuc (9,7)
     Filter {
         steps: &[
-            step(Type2, 0, &[1, 1], 2),
-            step(Type3, -1, &[-1, 9, 9, -1], 4),
+            lifting_step(Type2, 0, &[1, 1], 2),
+            lifting_step(Type3, -1, &[-1, 9, 9, -1], 4),
         ],
         shift: 1,
     },
     // 1: LeGall (5,3)
     Filter {
         steps: &[
-            step(Type2, 0, &[1, 1], 2),
-            step(Type3, 0, &[1, 1], 1),
+            lifting_step(Type2, 0, &[1, 1], 2),
+            lifting_step(Type3, 0, &[1, 1], 1),
         ],
         shift: 1,
     },
     // 2: Deslauriers-Dubuc (13,7)
     Filter {
         steps: &[
-            step(Type2, -1, &[-1, 9, 9, -1], 5),
-            step(Type3, -1, &[-1, 9, 9, -1], 4),
+            lifting_step(Type2, -1, &[-1, 9, 9, -1], 5),
+            lifting_step(Type3, -1, &[-1, 9, 9, -1], 4),
         ],
         shift: 1,
     },
     // 3: Haar without a shift
     Filter {
         steps: &[
-            step(Type2, 1, &[1], 1),
-            step(Type3, 0, &[1], 0),
+            lifting_step(Type2, 1, &[1], 1),
+            lifting_step(Type3, 0, &[1], 0),
         ],
         shift: 0,
     },
     // 4: Haar with a shift
     Filter {
         steps: &[
-            step(Type2, 1, &[1], 1),
-            step(Type3, 0, &[1], 0),
+            lifting_step(Type2, 1, &[1], 1),
+            lifting_step(Type3, 0, &[1], 0),
         ],
         shift: 1,
     },
     // 5: Fidelity
     Filter {
         steps: &[
-            step(Type3, -3, &[-2, 10, -25, 81, 81, -25, 10, -2], 8),
-            step(Type2, -3, &[-8, 21, -46, 161, 161, -46, 21, -8], 8),
+            lifting_step(Type3, -3, &[-2, 10, -25, 81, 81, -25, 10, -2], 8),
+            lifting_step(Type2, -3, &[-8, 21, -46, 161, 161, -46, 21, -8], 8),
         ],
         shift: 0,
     },
     // 6: Daubechies (9,7)
     Filter {
         steps: &[
-            step(Type2, 0, &[1817, 1817], 12),
-            step(Type4, 0, &[3616, 3616], 12),
-            step(Type1, 0, &[217, 217], 12),
-            step(Type3, 0, &[6497, 6497], 12),
+            lifting_step(Type2, 0, &[1817, 1817], 12),
+            lifting_step(Type4, 0, &[3616, 3616], 12),
+            lifting_step(Type1, 0, &[217, 217], 12),
+            lifting_step(Type3, 0, &[6497, 6497], 12),
         ],
         shift: 1,
     },
@@ -269,7 +275,7 @@ impl Grid {
     }
 
     /// A subband's numbers, this grid being a coefficient plane.
-    pub fn subband(&self, band: &Subband) -> Grid {
+    pub fn band(&self, band: &Subband) -> Grid {
         let mut numbers = Grid::new(band.width, band.height);
         for y in 0..band.height {
             for x in 0..band.width {
@@ -317,7 +323,7 @@ fn every_second(picture: &Grid, first_x: usize, first_y: usize) -> Grid {
 /// The picture of depth n, or status 10 at the first level with a number that doesn't fit; the
 /// parameters must be in range (document 01, "Synthesis and analysis").
 fn picture_of_depth(p: &Parameters, coefficients: &Grid, n: u32) -> Result<Grid, Answer> {
-    let band = |orientation| coefficients.subband(&subband(p, n, orientation));
+    let band = |orientation| coefficients.band(&subband_at(p, n, orientation));
     if n == 0 {
         return Ok(band(Orientation::LL));
     }
@@ -394,12 +400,12 @@ pub fn analyse_plane(p: &Parameters, plane: &[i128]) -> Analysis {
         let hl = every_second(&picture, 1, 0);
         let lh = every_second(&picture, 0, 1);
         let hh = every_second(&picture, 1, 1);
-        coefficients.set_subband(&subband(p, level, Orientation::HL), &hl);
-        coefficients.set_subband(&subband(p, level, Orientation::LH), &lh);
-        coefficients.set_subband(&subband(p, level, Orientation::HH), &hh);
+        coefficients.set_subband(&subband_at(p, level, Orientation::HL), &hl);
+        coefficients.set_subband(&subband_at(p, level, Orientation::LH), &lh);
+        coefficients.set_subband(&subband_at(p, level, Orientation::HH), &hh);
         picture = every_second(&picture, 0, 0);
     }
-    coefficients.set_subband(&subband(p, 0, Orientation::LL), &picture);
+    coefficients.set_subband(&subband_at(p, 0, Orientation::LL), &picture);
     Analysis {
         coefficients: coefficients.numbers,
         fits,

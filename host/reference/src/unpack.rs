@@ -43,8 +43,9 @@ fn unpack_subband(
         if length > remaining as u64 {
             return Err(BYTES_END);
         }
-        let end = data + length as usize;
-        unpack_codeblocks(p, band, quantiser as u32, &bytes[data..end], plane)?;
+        let end = data + usize::try_from(length).expect("so many bytes remain");
+        let quantiser = u32::try_from(quantiser).expect("it was checked");
+        unpack_codeblocks(p, band, quantiser, &bytes[data..end], plane)?;
         end
     };
     if p.intra && band.level == 0 {

@@ -1,15 +1,15 @@
 //! Tests on small pictures; no figure is tested.
 
 use bench::codeblocks::{self, CodeblockTimes};
-use bench::contest::{check, measure, Effort, Planes, PROVED};
+use bench::components::{Codeblocks, Component, Plan, Rate};
+use bench::decoders::{check, measure, Effort, Planes, PROVED};
 use bench::exact::LargeAndSmall;
 use bench::instructions::{collected, valgrind_version, CountReport, Counts};
 use bench::libavcodec::Libavcodec;
-use bench::material::{Codeblocks, Material, Plan, Rate};
 use bench::picture;
-use bench::race::{race, Contestant};
 use bench::refusals::{self, calls};
 use bench::report::{CodeblockRow, ExactRow, RefusalRow, Report, Row};
+use bench::timing::{take_turns, Timed};
 use std::cell::RefCell;
 use std::path::Path;
 
@@ -31,21 +31,21 @@ const RATE: Rate = Rate {
 };
 
 /// A small component with a wavelet.
-fn material(wavelet: u32) -> Material {
-    Material::of(small(wavelet), &[RATE]).remove(0)
+fn component(wavelet: u32) -> Component {
+    Component::of(small(wavelet), &[RATE]).remove(0)
 }
 
 /// A small component of wavelet 1 in codeblocks.
-fn divided(codeblocks: Codeblocks) -> Material {
+fn divided(codeblocks: Codeblocks) -> Component {
     let plan = Plan {
         codeblocks,
         ..small(1)
     };
-    Material::of(plan, &[RATE]).remove(0)
+    Component::of(plan, &[RATE]).remove(0)
 }
 
 /// One codeblock, many and more than there are columns.
-fn one_to_many() -> [Material; 4] {
+fn one_to_many() -> [Component; 4] {
     [
         Codeblocks::ONE,
         Codeblocks::written_out(3, 2),
@@ -65,15 +65,15 @@ fn pictures_are_of_their_seed_and_fit_8_bits() {
 }
 
 #[test]
-fn material_comes_near_to_its_rate() {
+fn components_come_near_to_its_rate() {
     for wavelet in 0..=6 {
         for first_index in [0, 8, 30] {
             let rate = Rate {
                 first_index,
                 ..RATE
             };
-            let material = Material::of(small(wavelet), &[rate]).remove(0);
-            let miss = material.bits_a_sample() - rate.bits_a_sample;
+            let component = Component::of(small(wavelet), &[rate]).remove(0);
+            let miss = component.bits_a_sample() - rate.bits_a_sample;
             assert!(miss.abs() < 0.3, "wavelet {wavelet}: {miss}");
         }
     }
@@ -82,24 +82,28 @@ fn material_comes_near_to_its_rate() {
 #[test]
 fn all_decoders_agree() {
     for wavelet in 0..=6 {
-        assert_eq!(check(&material(wavelet), true), Ok(()), "wavelet {wavelet}");
+        assert_eq!(
+            check(&component(wavelet), true),
+            Ok(()),
+            "wavelet {wavelet}"
+        );
     }
 }
 
 #[test]
 fn codeblocks_change_the_body_alone() {
     let [unpack, ..] = PROVED;
-    let one = material(1);
+    let one = component(1);
     let mut expected = Planes::new(&one);
     unpack(&one, &mut expected);
-    for material in one_to_many() {
-        let codeblocks = material.codeblocks;
-        assert_eq!(check(&material, true), Ok(()), "{codeblocks}");
-        assert_eq!(material.index, one.index, "{codeblocks}");
+    for component in one_to_many() {
+        let codeblocks = component.codeblocks;
+        assert_eq!(check(&component, true), Ok(()), "{codeblocks}");
+        assert_eq!(component.index, one.index, "{codeblocks}");
         let same_body = codeblocks == Codeblocks::ONE;
-        assert_eq!(material.body == one.body, same_body, "{codeblocks}");
-        let mut planes = Planes::new(&material);
-        unpack(&material, &mut planes);
+        assert_eq!(component.body == one.body, same_body, "{codeblocks}");
+        let mut planes = Planes::new(&component);
+        unpack(&component, &mut planes);
         assert!(planes == expected, "{codeblocks}");
     }
 }
@@ -112,30 +116,30 @@ fn flags_take_the_place_of_zeros() {
 
 #[test]
 fn a_component_that_is_refused_is_not_measured() {
-    let mut material = material(1);
-    material.body.pop();
-    assert!(check(&material, false).is_err());
+    let mut component = component(1);
+    component.body.pop();
+    assert!(check(&component, false).is_err());
 }
 
 #[test]
-fn contestants_take_turns() {
+fn what_is_timed_takes_turns() {
     let turns = RefCell::new(String::new());
-    let contestant = |name, rounds| {
+    let one = |name, rounds| {
         let turns = &turns;
-        Contestant::new(1 << 20, rounds, move || turns.borrow_mut().push(name))
+        Timed::new(1 << 20, rounds, move || turns.borrow_mut().push(name))
     };
-    race(&mut [contestant('a', 3), contestant('b', 1), contestant('c', 2)]);
+    take_turns(&mut [one('a', 3), one('b', 1), one('c', 2)]);
     assert_eq!(*turns.borrow(), "abcaca");
 }
 
 #[test]
 fn small_pictures_run_many_times_a_turn() {
     let runs = RefCell::new(0);
-    race(&mut [Contestant::new(1 << 10, 1, || *runs.borrow_mut() += 1)]);
+    take_turns(&mut [Timed::new(1 << 10, 1, || *runs.borrow_mut() += 1)]);
     assert_eq!(*runs.borrow(), 1 << 10);
 }
 
-/// One turn of everyone.
+/// One turn of each decoder.
 const ONE_TURN: Effort = Effort {
     rounds: 1,
     reference_rounds: 1,
@@ -144,8 +148,8 @@ const ONE_TURN: Effort = Effort {
 #[test]
 fn large_numbers_are_large_and_small_ones_small() {
     for wavelet in 0..=6 {
-        let material = material(wavelet);
-        let both = LargeAndSmall::of(&material).unwrap();
+        let component = component(wavelet);
+        let both = LargeAndSmall::of(&component).unwrap();
         let [large, small] = both.largest();
         assert!(large > 1 << 29 && small < 1 << 12, "{large}, {small}");
         assert!(both.wavelet() == wavelet && both.large_rows() > 10.0);
@@ -166,12 +170,12 @@ fn one_to_many_codeblocks_are_measured() {
 
 #[test]
 fn refusals_are_of_every_cost() {
-    let material = material(1);
-    let mut calls = calls(&material).unwrap();
+    let component = component(1);
+    let mut calls = calls(&component).unwrap();
     let answers = calls
         .iter()
         .map(|call| (call.answer.status, call.answer.place));
-    let used = material.body.len() as u64;
+    let used = component.body.len() as u64;
     let expected = [
         (1, 0),
         (2, 0),
@@ -194,25 +198,25 @@ fn refusals_are_of_every_cost() {
 
 #[test]
 fn reference_and_libavcodec_take_part_if_asked_to_and_installed() {
-    let material = material(1);
-    let speeds = measure(&material, ONE_TURN);
+    let component = component(1);
+    let speeds = measure(&component, ONE_TURN);
     assert_eq!(speeds.libavcodec.is_some(), Libavcodec::version().is_some());
     assert!(speeds.reference.is_some());
     let alone = Effort {
         reference_rounds: 0,
         ..ONE_TURN
     };
-    assert!(measure(&material, alone).reference.is_none());
+    assert!(measure(&component, alone).reference.is_none());
 }
 
 #[test]
 fn the_report_has_a_row_for_each_component() {
-    let material = material(1);
-    let mut speeds = measure(&material, ONE_TURN);
+    let component = component(1);
+    let mut speeds = measure(&component, ONE_TURN);
     speeds.libavcodec = None;
-    let row = Row::new(&material, speeds);
-    let both = LargeAndSmall::of(&material).unwrap();
-    let calls = calls(&material).unwrap();
+    let row = Row::new(&component, speeds);
+    let both = LargeAndSmall::of(&component).unwrap();
+    let calls = calls(&component).unwrap();
     let times = |unpack, decode| CodeblockTimes { unpack, decode };
     let flagged = divided(Codeblocks::flagged(16, 12));
     let report = Report {
@@ -220,7 +224,7 @@ fn the_report_has_a_row_for_each_component() {
         sizes: vec![row.clone(), row],
         rates: vec![],
         codeblocks: vec![
-            CodeblockRow::new(&material, times(2.0, 4.0), times(2.0, 4.0)),
+            CodeblockRow::new(&component, times(2.0, 4.0), times(2.0, 4.0)),
             CodeblockRow::new(&flagged, times(5.0, 12.0), times(2.0, 4.0)),
         ],
         exact: vec![ExactRow::new(&both, both.measure(ONE_TURN))],
@@ -259,14 +263,14 @@ fn instructions_of_decode_are_those_of_its_parts() {
         return;
     }
     let program = Path::new(env!("CARGO_BIN_EXE_bench_job"));
-    for material in [material(1), divided(Codeblocks::written_out(3, 2))] {
-        let counts = Counts::of(&material, program).unwrap();
+    for component in [component(1), divided(Codeblocks::written_out(3, 2))] {
+        let counts = Counts::of(&component, program).unwrap();
         let [unpack, synthesise, decode] = counts.a_sample;
         assert!(unpack > 1.0 && synthesise > 1.0);
         assert!((0.9..1.1).contains(&(decode / (unpack + synthesise))));
         let text = CountReport(vec![counts]).to_string();
         assert!(text.contains("| 64 x 48 | 2 | 1 |"));
-        assert!(text.contains(&format!(" | {} | ", material.codeblocks)));
-        assert!(Counts::of(&material, Path::new("no-such-program")).is_err());
+        assert!(text.contains(&format!(" | {} | ", component.codeblocks)));
+        assert!(Counts::of(&component, Path::new("no-such-program")).is_err());
     }
 }

@@ -107,7 +107,7 @@ fn small_numbers_just_fit_with_large_indices() {
 #[test]
 fn planes_have_every_size_at_which_a_path_may_end() {
     let mut kinds = BTreeSet::new();
-    let mut near = BTreeSet::new();
+    let mut seen = BTreeSet::new();
     let mut brink = BTreeMap::new();
     for case in first_cases() {
         let p = &case.parameters;
@@ -127,14 +127,14 @@ fn planes_have_every_size_at_which_a_path_may_end() {
             let powers = (10..=31).map(|power| 1 << power);
             for (k, bound) in powers.chain([safe_size(p.wavelet)]).enumerate() {
                 if (largest - bound).abs() <= 4 {
-                    near.insert((p.wavelet, k, largest >= bound));
+                    seen.insert((p.wavelet, k, largest >= bound));
                 }
             }
         }
     }
     assert_eq!(kinds.len(), 6);
     // Below each bound and above it, but nothing is above 2^31.
-    assert_eq!(near.len(), 7 * (2 * 23 - 1));
+    assert_eq!(seen.len(), 7 * (2 * 23 - 1));
     // Accepted and refused, with each wavelet.
     assert_eq!(brink.len(), 14);
     assert!(brink.values().all(|&count| count > 100), "{brink:?}");

@@ -1,13 +1,13 @@
 //! A decoder with fast paths, in plain Rust: without a fault it is like the reference; with a fault at a
 //! border of a fast path it is found out, and by many cases.
 
-use compare::{check, reference, safe_size, Case, Decoder, Job, Lent};
+use compare::{check, reference, safe_size, Buffers, Case, Decoder, Job};
 use reference::codes::{BitReader, PastEnd};
-use reference::params::Orientation::{HH, HL, LH, LL};
-use reference::params::{padded_height, padded_width, subband, subbands, Subband};
-use reference::transform::{filter_line, interleave, shift_down, Filter, Grid, Step, FILTERS};
+use reference::params::{padded_width, subbands, Subband};
+use reference::transform::{filter_line, shift_down, Filter, Grid, Step, FILTERS};
 use reference::unpack::{codeblock_start, dequantise, prediction};
 use reference::{Answer, Parameters};
+use vectors::levels::{build_picture, halve};
 
 /// No fault.
 pub const NONE: u8 = 0;
@@ -132,7 +132,7 @@ fn read_band(
 /// A reader of a subband's codeblocks: from its data, with an index, into a plane, with a fault.
 pub type ReadBand = fn(&Parameters, &Subband, u32, &[u8], &mut [i32], u8) -> Result<(), u32>;
 
-/// Reads a subband whose bytes start at a place, and predicts it; answers where it ends.
+/// Reads a subband that starts at a byte, and predicts it; answers where it ends.
 fn unpack_band(
     p: &Parameters,
     band: &Subband,
@@ -155,10 +155,10 @@ fn unpack_band(
     if p.intra && band.level == 0 {
         for y in 0..band.height {
             for x in 0..band.width {
-                let place = y * padded_width(p) + x;
+                let entry = y * padded_width(p) + x;
                 let add = prediction(x, y, |x, y| i64::from(plane[y * padded_width(p) + x]));
-                let value = i64::from(plane[place]) + add;
-                plane[place] = i32::try_from(value).map_err(|_| 9u32)?;
+                let value = i64::from(plane[entry]) + add;
+                plane[entry] = i32::try_from(value).map_err(|_| 9u32)?;
             }
         }
     }
@@ -197,12 +197,12 @@ fn lift_wrapping(step: &Step, line: &mut [i32]) {
         let mut sum = (1i32 << step.scale) >> 1;
         for (k, &tap) in step.taps.iter().enumerate() {
             let at = 2 * (n + step.first_offset + k as i64);
-            let place = if to_even {
+            let position = if to_even {
                 (at - 1).clamp(1, length - 1)
             } else {
                 at.clamp(0, length - 2)
             };
-            sum = sum.wrapping_add((tap as i32).wrapping_mul(line[place as usize]));
+            sum = sum.wrapping_add((tap as i32).wrapping_mul(line[position as usize]));
         }
         let change = sum >> step.scale;
         let target = &mut line[2 * n as usize + usize::from(!to_even)];
@@ -246,7 +246,7 @@ fn filter_picture(filter: &Filter, picture: &mut Grid, bound: i64) -> bool {
 }
 
 /// Synthesises, for parameters and planes that pass the checks.
-fn synthesise(p: &Parameters, lent: Lent, fault: u8) -> Answer {
+fn synthesise(p: &Parameters, buffers: Buffers, fault: u8) -> Answer {
     let safe = safe_size(p.wavelet);
     let bound = if fault == BOUND {
         safe + safe / 2
@@ -254,27 +254,21 @@ fn synthesise(p: &Parameters, lent: Lent, fault: u8) -> Answer {
         safe
     };
     let filter = &FILTERS[p.wavelet as usize];
-    let plane = Grid {
-        width: padded_width(p),
-        height: padded_height(p),
-        numbers: lent.coefficients.iter().map(|&c| i128::from(c)).collect(),
-    };
-    lent.work.fill(0);
-    let mut picture = plane.subband(&subband(p, 0, LL));
-    for level in 1..=p.depth {
-        let [hl, lh, hh] = [HL, LH, HH].map(|band| plane.subband(&subband(p, level, band)));
-        picture = interleave(&picture, &hl, &lh, &hh);
-        if !filter_picture(filter, &mut picture, bound) {
-            lent.samples.fill(0);
-            return Answer::refused(10, level.into());
+    let (mut level, mut refused_at) = (0, None);
+    let picture = build_picture(p, buffers.coefficients, |mut picture| {
+        level += 1;
+        if refused_at.is_none() && !filter_picture(filter, &mut picture, bound) {
+            refused_at = Some(level);
         }
-        if filter.shift == 1 {
-            for number in &mut picture.numbers {
-                *number = shift_down(*number);
-            }
-        }
+        halve(filter, &mut picture, shift_down);
+        picture
+    });
+    buffers.work.fill(0);
+    if let Some(level) = refused_at {
+        buffers.samples.fill(0);
+        return Answer::refused(10, level);
     }
-    let rows = lent.samples.chunks_mut(p.width as usize);
+    let rows = buffers.samples.chunks_mut(p.width as usize);
     for (samples, row) in rows.zip(picture.numbers.chunks(picture.width)) {
         for (sample, &number) in samples.iter_mut().zip(row) {
             *sample = number as i32;
@@ -284,22 +278,22 @@ fn synthesise(p: &Parameters, lent: Lent, fault: u8) -> Answer {
 }
 
 /// The decoder with a fault. Decode, and what the first checks refuse, are the reference's.
-fn fast<const FAULT: u8>(p: &Parameters, job: Job, lent: Lent) -> Answer {
+fn fast<const FAULT: u8>(p: &Parameters, job: Job, buffers: Buffers) -> Answer {
     match job {
-        Job::Synthesise if !refused_at_once(p, job, &lent) => synthesise(p, lent, FAULT),
-        _ => fast_unpack(p, job, lent, read_band, FAULT),
+        Job::Synthesise if !refused_at_once(p, job, &buffers) => synthesise(p, buffers, FAULT),
+        _ => fast_unpack(p, job, buffers, read_band, FAULT),
     }
 }
 
 /// Whether the first checks refuse a job.
-fn refused_at_once(p: &Parameters, job: Job, lent: &Lent) -> bool {
+fn refused_at_once(p: &Parameters, job: Job, buffers: &Buffers) -> bool {
     let mut planes = (
-        lent.coefficients.to_vec(),
-        lent.work.to_vec(),
-        lent.samples.to_vec(),
+        buffers.coefficients.to_vec(),
+        buffers.work.to_vec(),
+        buffers.samples.to_vec(),
     );
-    let trial = Lent {
-        bytes: lent.bytes,
+    let trial = Buffers {
+        bytes: buffers.bytes,
         coefficients: &mut planes.0,
         work: &mut planes.1,
         samples: &mut planes.2,
@@ -309,11 +303,17 @@ fn refused_at_once(p: &Parameters, job: Job, lent: &Lent) -> bool {
 
 /// A decoder whose unpack reads subbands so. The other jobs, and what the first checks refuse, are the
 /// reference's.
-pub fn fast_unpack(p: &Parameters, job: Job, lent: Lent, read_band: ReadBand, fault: u8) -> Answer {
-    if job == Job::Unpack && !refused_at_once(p, job, &lent) {
-        unpack(p, lent.bytes, lent.coefficients, read_band, fault)
+pub fn fast_unpack(
+    p: &Parameters,
+    job: Job,
+    buffers: Buffers,
+    read_band: ReadBand,
+    fault: u8,
+) -> Answer {
+    if job == Job::Unpack && !refused_at_once(p, job, &buffers) {
+        unpack(p, buffers.bytes, buffers.coefficients, read_band, fault)
     } else {
-        reference(p, job, lent)
+        reference(p, job, buffers)
     }
 }
 

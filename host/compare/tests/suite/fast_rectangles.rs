@@ -4,7 +4,7 @@
 
 use crate::codes::cases;
 use crate::fast_paths::{fast_unpack, found, Bits, NONE};
-use compare::{check, Decoder, Job, Kind, Lent};
+use compare::{check, Buffers, Decoder, Job, Kind};
 use reference::params::{padded_width, Subband};
 use reference::unpack::{codeblock_start, dequantise};
 use reference::{Answer, Parameters};
@@ -197,8 +197,8 @@ fn read_band(
 }
 
 /// The decoder with a fault.
-fn fast<const FAULT: u8>(p: &Parameters, job: Job, lent: Lent) -> Answer {
-    fast_unpack(p, job, lent, read_band, FAULT)
+fn fast<const FAULT: u8>(p: &Parameters, job: Job, buffers: Buffers) -> Answer {
+    fast_unpack(p, job, buffers, read_band, FAULT)
 }
 
 #[test]

@@ -1,7 +1,7 @@
-//! The proved library reads and writes nothing but what it is lent: here each part lies against memory
+//! The proved library reads and writes nothing but what it is buffers: here each part lies against memory
 //! that may not be touched at all.
 
-use compare::{proved, results, Case, Job, Lent};
+use compare::{proved, results, Buffers, Case, Job};
 use std::ffi::{c_int, c_void};
 use std::ptr::null_mut;
 use std::slice;
@@ -86,13 +86,13 @@ fn nothing_outside_the_planes_and_bytes_is_touched() {
                 let mut coefficients = Fenced::new(&case.coefficients, against_end);
                 let mut work = Fenced::new(&vec![7; case.work_length], against_end);
                 let mut samples = Fenced::new(&vec![7; case.samples_length], against_end);
-                let lent = Lent {
+                let buffers = Buffers {
                     bytes: bytes.part(),
                     coefficients: coefficients.part(),
                     work: work.part(),
                     samples: samples.part(),
                 };
-                let answer = proved(&case.parameters, job, lent);
+                let answer = proved(&case.parameters, job, buffers);
                 assert_eq!(answer, expected.answer, "seed {seed}");
             }
         }

@@ -1,6 +1,6 @@
 //! Decoders with one fault each are found out.
 
-use compare::{check, reference, Case, Decoder, Job, Lent};
+use compare::{check, reference, Buffers, Case, Decoder, Job};
 use reference::{Answer, Parameters};
 
 /// How many cases a decoder is tried on.
@@ -11,13 +11,13 @@ fn is_found_out(decoder: Decoder) -> bool {
     (1..=CASES).any(|seed| check(&Case::from_seed(seed), decoder).is_err())
 }
 
-/// The same parts, lent on.
-fn lend<'a>(lent: &'a mut Lent) -> Lent<'a> {
-    Lent {
-        bytes: lent.bytes,
-        coefficients: lent.coefficients,
-        work: lent.work,
-        samples: lent.samples,
+/// The same parts, buffers on.
+fn reborrowed<'a>(buffers: &'a mut Buffers) -> Buffers<'a> {
+    Buffers {
+        bytes: buffers.bytes,
+        coefficients: buffers.coefficients,
+        work: buffers.work,
+        samples: buffers.samples,
     }
 }
 
@@ -28,8 +28,8 @@ fn the_reference_is_like_itself() {
 
 #[test]
 fn a_place_off_by_one_is_found() {
-    fn off_by_one(p: &Parameters, job: Job, lent: Lent) -> Answer {
-        let answer = reference(p, job, lent);
+    fn off_by_one(p: &Parameters, job: Job, buffers: Buffers) -> Answer {
+        let answer = reference(p, job, buffers);
         match answer.status {
             9 => Answer::refused(9, answer.place + 1),
             _ => answer,
@@ -40,18 +40,18 @@ fn a_place_off_by_one_is_found() {
 
 #[test]
 fn a_plane_not_zeroed_is_found() {
-    fn keeps_coefficients(p: &Parameters, job: Job, mut lent: Lent) -> Answer {
-        let before = lent.coefficients.to_vec();
-        let answer = reference(p, job, lend(&mut lent));
+    fn keeps_coefficients(p: &Parameters, job: Job, mut buffers: Buffers) -> Answer {
+        let before = buffers.coefficients.to_vec();
+        let answer = reference(p, job, reborrowed(&mut buffers));
         if job == Job::Decode && answer.status == 10 {
-            lent.coefficients.copy_from_slice(&before);
+            buffers.coefficients.copy_from_slice(&before);
         }
         answer
     }
-    fn keeps_work(p: &Parameters, job: Job, mut lent: Lent) -> Answer {
-        let before = lent.work.to_vec();
-        let answer = reference(p, job, lend(&mut lent));
-        lent.work.copy_from_slice(&before);
+    fn keeps_work(p: &Parameters, job: Job, mut buffers: Buffers) -> Answer {
+        let before = buffers.work.to_vec();
+        let answer = reference(p, job, reborrowed(&mut buffers));
+        buffers.work.copy_from_slice(&before);
         answer
     }
     assert!(is_found_out(keeps_coefficients));
@@ -60,10 +60,10 @@ fn a_plane_not_zeroed_is_found() {
 
 #[test]
 fn a_plane_changed_by_a_refusal_is_found() {
-    fn zeros_samples(p: &Parameters, job: Job, mut lent: Lent) -> Answer {
-        let answer = reference(p, job, lend(&mut lent));
+    fn zeros_samples(p: &Parameters, job: Job, mut buffers: Buffers) -> Answer {
+        let answer = reference(p, job, reborrowed(&mut buffers));
         if answer.status == 5 {
-            lent.samples.fill(0);
+            buffers.samples.fill(0);
         }
         answer
     }
@@ -72,9 +72,9 @@ fn a_plane_changed_by_a_refusal_is_found() {
 
 #[test]
 fn a_wrong_entry_is_found() {
-    fn last_sample_wrong(p: &Parameters, job: Job, mut lent: Lent) -> Answer {
-        let answer = reference(p, job, lend(&mut lent));
-        if let (Job::Synthesise, 0, Some(last)) = (job, answer.status, lent.samples.last_mut()) {
+    fn last_sample_wrong(p: &Parameters, job: Job, mut buffers: Buffers) -> Answer {
+        let answer = reference(p, job, reborrowed(&mut buffers));
+        if let (Job::Synthesise, 0, Some(last)) = (job, answer.status, buffers.samples.last_mut()) {
             *last ^= 1;
         }
         answer
@@ -84,10 +84,10 @@ fn a_wrong_entry_is_found() {
 
 #[test]
 fn coefficients_written_by_synthesise_are_found() {
-    fn writes_input(p: &Parameters, job: Job, mut lent: Lent) -> Answer {
-        let answer = reference(p, job, lend(&mut lent));
+    fn writes_input(p: &Parameters, job: Job, mut buffers: Buffers) -> Answer {
+        let answer = reference(p, job, reborrowed(&mut buffers));
         if job == Job::Synthesise && answer.status == 10 {
-            lent.coefficients.fill(0);
+            buffers.coefficients.fill(0);
         }
         answer
     }

@@ -1,6 +1,6 @@
 //! Tests that need no FFmpeg.
 
 mod comparison;
+mod eligibility;
 mod generator;
 mod streams;
-mod vouching;

@@ -125,8 +125,6 @@ fn exit_statuses() {
         &[][..],
         &["decode"],
         &["jobs", "a", "b"],
-        &["recordings"],
-        &["samples", "a", "b"],
         &["unknown", "file"],
     ] {
         let output = run(words);

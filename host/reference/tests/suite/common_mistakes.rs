@@ -7,7 +7,7 @@ use reference::unpack::predict_from_three;
 
 #[test]
 fn rows_before_columns() {
-    let p = parameters(2, 2, 1, 3, true);
+    let p = plain(2, 2, 1, 3, true);
     let samples = run_synthesise(&p, &[10, 4, -2, 1]).2;
     assert_eq!(samples, [9, 12, 7, 11]);
     assert_ne!(samples, [9, 13, 6, 11]);
@@ -25,7 +25,7 @@ fn division_toward_zero() {
     filter_line(FILTERS[3].steps, &mut line);
     assert_eq!(line, [8, 6]);
     // In a whole unpacked level: residuals -1 0 / 0 0, predicted -1 -1 / -1 -1.
-    let p = parameters(2, 2, 0, 3, true);
+    let p = plain(2, 2, 0, 3, true);
     let body = subband_bytes(0, &bits("0011 1 1 1"));
     assert_eq!(run_unpack(&p, &body).1, [-1, -1, -1, -1]);
     // And -1 0 / 1 0, predicted -1 -1 / 0 -1: floor((0 - 1 - 1 + 1) / 3) = -1.
@@ -35,7 +35,7 @@ fn division_toward_zero() {
 
 #[test]
 fn missing_bits_read_as_zero() {
-    let p = parameters(8, 1, 0, 3, false);
+    let p = plain(8, 1, 0, 3, false);
     // After five zeros 001 is a 1, whose sign lies past the length: minus. Then zeros.
     let body = subband_bytes(0, &bits("11111 001"));
     assert_eq!(
@@ -60,7 +60,7 @@ fn missing_bits_read_as_zero() {
 #[test]
 fn missing_bits_are_those_past_the_length_not_the_bytes() {
     // Level 0 has one byte of data; the next subband's bytes follow and aren't read as its data.
-    let p = parameters(2, 2, 1, 3, false);
+    let p = plain(2, 2, 1, 3, false);
     let mut body = subband_bytes(0, &bits("0000 0001"));
     body.extend([0x80, 0x80, 0x80]);
     // Data bits 0 0 0 1 give v = 17; the end and the minus lie past the length.
@@ -70,7 +70,7 @@ fn missing_bits_are_those_past_the_length_not_the_bytes() {
 #[test]
 fn the_longest_value_may_end_past_the_length() {
     // Two zeros, then 31 data bits that end with the eighth byte: v = 2^31 + 1, and minus.
-    let p = parameters(3, 1, 0, 3, false);
+    let p = plain(3, 1, 0, 3, false);
     let body = subband_bytes(0, &bits(&("11".to_string() + &"00".repeat(30) + "01")));
     assert_eq!(run_unpack(&p, &body), (answer(0, 9), vec![0, 0, i32::MIN]));
 }
@@ -78,28 +78,28 @@ fn the_longest_value_may_end_past_the_length() {
 #[test]
 fn prediction_passing_over_a_flagged_block() {
     // Two codeblocks: 5, and a flagged one that is predicted all the same.
-    let p = with_codeblocks(&parameters(2, 1, 0, 3, true), 0, 2, 1);
+    let p = with_codeblocks(&plain(2, 1, 0, 3, true), 0, 2, 1);
     let body = subband_bytes(0, &bits("0 01001 0 1"));
     assert_eq!(run_unpack(&p, &body).1, [5, 5]);
     // Three in a column: 5, flagged, 1.
-    let p = with_codeblocks(&parameters(1, 3, 0, 3, true), 0, 1, 3);
+    let p = with_codeblocks(&plain(1, 3, 0, 3, true), 0, 1, 3);
     let body = subband_bytes(0, &bits("0 01001 0 1 0 0010"));
     assert_eq!(run_unpack(&p, &body).1, [5, 5, 6]);
     // Not intra, the flagged block stays zero.
-    let p = with_codeblocks(&parameters(1, 3, 0, 3, false), 0, 1, 3);
+    let p = with_codeblocks(&plain(1, 3, 0, 3, false), 0, 1, 3);
     assert_eq!(run_unpack(&p, &body).1, [5, 0, 1]);
 }
 
 #[test]
 fn no_flag_read_for_an_empty_block() {
     // One column in three codeblocks: only the last has it, and three flags are read.
-    let p = with_codeblocks(&parameters(1, 1, 0, 3, false), 0, 3, 1);
+    let p = with_codeblocks(&plain(1, 1, 0, 3, false), 0, 3, 1);
     let body = subband_bytes(0, &bits("0 1 0 0010"));
     assert_eq!(run_unpack(&p, &body), (answer(0, 2), vec![1]));
     let body = subband_bytes(0, &bits("1 1 0 0010"));
     assert_eq!(run_unpack(&p, &body), (answer(0, 2), vec![1]));
     // Two by two codeblocks of one position: the last one has it.
-    let p = with_codeblocks(&parameters(1, 1, 0, 3, false), 0, 2, 2);
+    let p = with_codeblocks(&plain(1, 1, 0, 3, false), 0, 2, 2);
     let body = subband_bytes(0, &bits("0 0 0 0 0110"));
     assert_eq!(run_unpack(&p, &body), (answer(0, 2), vec![2]));
 }
@@ -111,10 +111,10 @@ fn one_edge_rule_for_odd_and_even_positions() {
     let mut line = [0, 8, 0, 16];
     filter_line(FILTERS[1].steps, &mut line);
     assert_eq!(line, [-4, 3, -6, 10]);
-    // Held to 0..N - 1 alike, A0 would read A0 (0) and A3 would read A3 (16).
-    // Index 5 on a line shorter than its taps, where nearly every position is held: with the even
+    // Clamped to 0..N - 1 alike, A0 would read A0 (0) and A3 would read A3 (16).
+    // Index 5 on a line shorter than its taps, where nearly every position is clamped: with the even
     // positions 0 step 1 adds floor(128 / 256) = 0, and step 2 takes from A0 and A2
-    // A0: taps at -7 -5 -3 -1 1 are held to 1 and sum to 289; at 3 and beyond: -46 + 21 - 8 = -33.
+    // A0: taps at -7 -5 -3 -1 1 are clamped to 1 and sum to 289; at 3 and beyond: -46 + 21 - 8 = -33.
     // A2: taps -8 21 -46 161 at 1 sum to 128, as do those at 3.
     let mut line = [0, 1000, 0, 2000];
     filter_line(FILTERS[5].steps, &mut line);
@@ -126,7 +126,7 @@ fn one_edge_rule_for_odd_and_even_positions() {
 #[test]
 fn edge_rules_in_a_picture() {
     // Index 1, depth 1, one row of HL 8 16 on LL 0: columns change only by the row below.
-    let p = parameters(4, 2, 1, 1, false);
+    let p = plain(4, 2, 1, 1, false);
     let coefficients = [0, 0, 8, 16, 0, 0, 0, 0];
     let samples = run_synthesise(&p, &coefficients).2;
     // The row is [-4, 3, -6, 10] shifted down, twice.

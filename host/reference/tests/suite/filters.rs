@@ -106,9 +106,9 @@ fn every_filter_follows_its_formulas() {
     let mut random = Random::new(1);
     for (index, filter) in FILTERS.iter().enumerate() {
         for half in 1..=12 {
-            for spread in [3, 1000, 1 << 31] {
+            for bound in [3, 1000, 1 << 31] {
                 let start: Vec<i64> = (0..2 * half)
-                    .map(|_| random.range(-spread, spread - 1))
+                    .map(|_| random.range(-bound, bound - 1))
                     .collect();
                 let mut expected = start.clone();
                 by_formulas(index, &mut expected);

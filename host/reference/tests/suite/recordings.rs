@@ -9,7 +9,7 @@ const REFUSED: &str = "refused 11\n";
 /// An entry of one sample: its body is one subband of length 0.
 fn small_entry() -> Entry {
     Entry {
-        parameters: parameters(1, 1, 0, 0, true),
+        parameters: plain(1, 1, 0, 0, true),
         body: vec![0x80],
     }
 }
@@ -27,10 +27,10 @@ fn field(entry: usize, at: usize) -> usize {
 }
 
 /// The two entries' file with one byte changed.
-fn changed(place: usize, byte: u8) -> String {
+fn changed(index: usize, byte: u8) -> String {
     let mut file = two_entries();
-    assert_ne!(file[place], byte);
-    file[place] = byte;
+    assert_ne!(file[index], byte);
+    file[index] = byte;
     read_recording(&file)
 }
 
@@ -46,7 +46,7 @@ fn two_entries_print() {
 #[test]
 fn width_comes_before_height() {
     let entry = Entry {
-        parameters: parameters(3, 2, 0, 0, false),
+        parameters: plain(3, 2, 0, 0, false),
         body: subband_bytes(0, &bits("1 0010 0110 000011 0010 1")),
     };
     assert_eq!(
@@ -97,10 +97,10 @@ fn intra_and_the_zero_byte() {
 fn offsets_and_lengths() {
     for entry in 0..2 {
         for byte in 18..26 {
-            let place = field(entry, byte);
-            let old = two_entries()[place];
+            let index = field(entry, byte);
+            let old = two_entries()[index];
             for new in [old.wrapping_add(1), old.wrapping_sub(1), old ^ 0x80] {
-                assert_eq!(changed(place, new), REFUSED, "byte {place} is {new}");
+                assert_eq!(changed(index, new), REFUSED, "byte {index} is {new}");
             }
         }
     }
@@ -199,7 +199,7 @@ fn refused_entries() {
     entry.body = vec![0x80; 12];
     entry.body.extend(subband_bytes(115, &bits("01001 0")));
     assert_eq!(printed(&entry), "entry 0: refused 9 place 12\n");
-    entry.parameters = parameters(2, 2, 1, 3, false);
+    entry.parameters = plain(2, 2, 1, 3, false);
     // -2^31, then 0, then 1: the even row gets one less.
     entry.body = subband_bytes(0, &bits(&("00".repeat(30) + "01" + "1" + "1")));
     entry.body.push(0x80);
@@ -222,7 +222,7 @@ fn the_largest_padded_area() {
         (4096, 4, 3, false),
     ] {
         let entry = Entry {
-            parameters: parameters(width, height, depth, 0, true),
+            parameters: plain(width, height, depth, 0, true),
             body: vec![0x80; 13],
         };
         let first = printed(&entry).lines().next().unwrap().to_string();
@@ -253,7 +253,7 @@ fn written_recordings_parse_back() {
             let mut count = || random.range(1, 255) as u32;
             let codeblocks_across = [count(), count(), count(), count(), count()];
             let codeblocks_down = [count(), count(), count(), count(), count()];
-            let mut p = parameters(
+            let mut p = plain(
                 random.range(0, 65_535) as u32,
                 random.range(0, 65_535) as u32,
                 random.range(0, 255) as u32,

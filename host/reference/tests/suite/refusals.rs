@@ -44,7 +44,7 @@ fn each_fault_alone_and_in_order() {
     ];
     // Every set of faults: each job gives the first one it looks for.
     for set in 0u32..32 {
-        let mut p = parameters(3, 2, 2, 1, true);
+        let mut p = plain(3, 2, 2, 1, true);
         let mut lengths = [16, 16, 6];
         let mut expected = [0, 0, 0];
         for (k, (fault, given)) in faults.iter().enumerate() {
@@ -63,7 +63,7 @@ fn each_fault_alone_and_in_order() {
 
 #[test]
 fn any_value_of_a_parameter_is_answered() {
-    let good = parameters(3, 2, 2, 1, true);
+    let good = plain(3, 2, 2, 1, true);
     let lengths = [16, 16, 6];
     for bad in [0, 4097, 65_536, 1 << 31, u32::MAX] {
         for change in [
@@ -101,11 +101,11 @@ fn any_value_of_a_parameter_is_answered() {
 #[test]
 fn the_ends_of_the_ranges_are_accepted() {
     // Every byte given is 0xFF: each subband has length 0.
-    let p = parameters(4096, 1, 0, 6, true);
+    let p = plain(4096, 1, 0, 6, true);
     assert_eq!(statuses(&p, [4096; 3]), [0; 3]);
-    let p = parameters(1, 4096, 4, 0, false);
+    let p = plain(1, 4096, 4, 0, false);
     assert_eq!(statuses(&p, [65_536, 65_536, 4096]), [0; 3]);
-    let mut p = parameters(1, 1, 4, 6, true);
+    let mut p = plain(1, 1, 4, 6, true);
     p.codeblocks_across = [255; 5];
     p.codeblocks_down = [255; 5];
     assert_eq!(statuses(&p, [256, 256, 1]), [0; 3]);
@@ -113,7 +113,7 @@ fn the_ends_of_the_ranges_are_accepted() {
 
 #[test]
 fn each_plane_needs_its_length() {
-    let p = parameters(3, 2, 2, 1, true);
+    let p = plain(3, 2, 2, 1, true);
     assert_eq!((padded_width(&p), padded_height(&p)), (4, 4));
     assert_eq!((padded_area(&p), sample_area(&p)), (16, 6));
     assert_eq!(statuses(&p, [16, 16, 6]), [0, 0, 0]);
@@ -129,7 +129,7 @@ fn each_plane_needs_its_length() {
 #[test]
 fn padded_sizes() {
     let size = |width, height, depth| {
-        let p = parameters(width, height, depth, 0, false);
+        let p = plain(width, height, depth, 0, false);
         (padded_width(&p), padded_height(&p))
     };
     assert_eq!(size(1, 1, 0), (1, 1));
@@ -141,19 +141,19 @@ fn padded_sizes() {
 
 #[test]
 fn analysis_makes_the_checks_of_synthesis() {
-    let p = parameters(3, 2, 2, 1, true);
+    let p = plain(3, 2, 2, 1, true);
     assert!(analyse(&p, &[0; 16]).is_ok());
     assert_eq!(analyse(&p, &[0; 15]), Err(answer(5, 0)));
     assert_eq!(
-        analyse(&parameters(3, 2, 2, 7, true), &[0; 16]),
+        analyse(&plain(3, 2, 2, 7, true), &[0; 16]),
         Err(answer(3, 0))
     );
     assert_eq!(
-        analyse(&parameters(3, 2, 5, 7, true), &[0; 16]),
+        analyse(&plain(3, 2, 5, 7, true), &[0; 16]),
         Err(answer(2, 0))
     );
     assert_eq!(
-        analyse(&parameters(0, 2, 5, 7, true), &[0; 16]),
+        analyse(&plain(0, 2, 5, 7, true), &[0; 16]),
         Err(answer(1, 0))
     );
 }
@@ -180,7 +180,7 @@ fn assert_body_refused(p: &Parameters, body: &[u8], expected: Answer) {
 #[test]
 fn bytes_ending_early_in_each_subband() {
     // Every subband has a header byte and two bytes of data.
-    let p = parameters(8, 8, 2, 1, true);
+    let p = plain(8, 8, 2, 1, true);
     let mut body = Vec::new();
     for _ in 0..7 {
         body.extend(subband_bytes(0, &[0xFF, 0xFF]));
@@ -196,7 +196,7 @@ fn bytes_ending_early_in_each_subband() {
 
 #[test]
 fn bytes_ending_inside_a_header() {
-    let p = parameters(2, 2, 1, 1, true);
+    let p = plain(2, 2, 1, 1, true);
     // A length that doesn't end; an index that doesn't begin, or doesn't end.
     assert_body_refused(&p, &bits("00000000"), answer(6, 0));
     assert_body_refused(&p, &bits("1000 0000 0000 0000"), answer(6, 1));
@@ -209,7 +209,7 @@ fn bytes_ending_inside_a_header() {
 #[test]
 fn length_zero_uses_whole_bytes_only() {
     // The skipped bits may have any value; no index follows a length of 0.
-    let p = parameters(2, 2, 1, 1, true);
+    let p = plain(2, 2, 1, 1, true);
     for skipped in [0x80, 0xFF, 0xA5, 0x80 | 0x2A] {
         assert_eq!(run_unpack(&p, &[skipped; 4]), (answer(0, 4), vec![0; 4]));
     }
@@ -217,7 +217,7 @@ fn length_zero_uses_whole_bytes_only() {
 
 #[test]
 fn index_is_checked_before_the_length() {
-    let p = parameters(2, 2, 1, 1, true);
+    let p = plain(2, 2, 1, 1, true);
     // Length 255, index 116, and no data.
     let header = SubbandOptions {
         quantiser: 116,
@@ -237,7 +237,7 @@ fn index_is_checked_before_the_length() {
 
 #[test]
 fn the_earliest_refusal_in_reading_order() {
-    let p = parameters(2, 1, 0, 1, true);
+    let p = plain(2, 1, 0, 1, true);
     let too_large = "00".repeat(30) + "01" + "1" + "0";
     let too_long = "00".repeat(32) + "1" + "0";
     // In one subband: 9 before 7, 7 before 9.
@@ -250,22 +250,22 @@ fn the_earliest_refusal_in_reading_order() {
     let body = subband_bytes(0, &bits(&(smallest.clone() + &too_long)));
     assert_body_refused(&p, &body, answer(7, 0));
     // Prediction comes after the subband's last number: -2^31 and -1 would be 9 there.
-    let p = parameters(3, 1, 0, 1, true);
+    let p = plain(3, 1, 0, 1, true);
     let body = subband_bytes(0, &bits(&(smallest.clone() + "0011" + &too_long)));
     assert_body_refused(&p, &body, answer(7, 0));
     let body = subband_bytes(0, &bits(&(smallest.clone() + "0011" + "1")));
     assert_body_refused(&p, &body, answer(9, 0));
     // And before the next subband is read.
-    let p = parameters(3, 1, 1, 1, true);
+    let p = plain(3, 1, 1, 1, true);
     let body = subband_bytes(0, &bits(&(smallest + "0011")));
     assert_body_refused(&p, &body, answer(9, 0));
-    let p = parameters(3, 1, 1, 1, false);
+    let p = plain(3, 1, 1, 1, false);
     assert_body_refused(&p, &body, answer(6, 1));
 }
 
 #[test]
 fn places_count_subbands_in_stream_order() {
-    let p = parameters(5, 7, 4, 1, true);
+    let p = plain(5, 7, 4, 1, true);
     for subband in 0..13 {
         // Length 0 as often as needed, then a fault.
         let mut body = vec![0x80; subband];
@@ -281,7 +281,7 @@ fn places_count_subbands_in_stream_order() {
 #[test]
 fn decode_refused_in_synthesis_clears_every_plane() {
     // LL is the smallest number and LH is 1.
-    let p = parameters(2, 1, 1, 3, false);
+    let p = plain(2, 1, 1, 3, false);
     let coefficients = [i32::MIN, 0, 1, 0];
     let options = EncodeOptions::uniform(&p, SubbandOptions::default());
     let body = encode_body(&p, &coefficients, &options);
@@ -297,7 +297,7 @@ fn decode_refused_in_synthesis_clears_every_plane() {
 #[test]
 fn the_next_subband_starts_where_the_length_ends() {
     // Level 0 uses 4 bits of 3 bytes.
-    let p = parameters(2, 2, 1, 3, false);
+    let p = plain(2, 2, 1, 3, false);
     let mut body = subband_bytes(0, &[0b0010_0000, 0, 0]);
     body.extend(subband_bytes(0, &bits("0110")));
     body.extend([0x80, 0x80]);
@@ -310,7 +310,7 @@ fn decode_is_unpack_then_synthesise() {
     let mut random = Random::new(12);
     let mut seen = [0; 11];
     for _ in 0..3000 {
-        let mut p = parameters(
+        let mut p = plain(
             random.range(1, 9) as u32,
             random.range(1, 9) as u32,
             random.range(0, 4) as u32,

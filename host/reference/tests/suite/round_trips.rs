@@ -44,10 +44,10 @@ fn synthesis_undoes_analysis() {
     for wavelet in 0..7 {
         for depth in 0..=4 {
             for &(width, height) in &sizes {
-                let p = parameters(width, height, depth, wavelet, false);
-                for spread in [3, 1 << 15] {
+                let p = plain(width, height, depth, wavelet, false);
+                for bound in [3, 1 << 15] {
                     let plane: Vec<i128> = (0..padded_area(&p))
-                        .map(|_| i128::from(random.range(-spread, spread)))
+                        .map(|_| i128::from(random.range(-bound, bound)))
                         .collect();
                     assert!(assert_undone(&p, &plane), "{p:?}");
                 }
@@ -63,12 +63,12 @@ fn synthesis_undoes_analysis_wherever_that_fits() {
     let (mut fitting, mut others) = (0, 0);
     for wavelet in 0..7 {
         for depth in 1..=3 {
-            let p = parameters(3, 5, depth, wavelet, false);
+            let p = plain(3, 5, depth, wavelet, false);
             for power in 24..=31 {
                 for _ in 0..3 {
-                    let spread = 1 << power;
+                    let bound = 1 << power;
                     let plane: Vec<i128> = (0..padded_area(&p))
-                        .map(|_| i128::from(random.range(-spread, spread)))
+                        .map(|_| i128::from(random.range(-bound, bound)))
                         .collect();
                     if assert_undone(&p, &plane) {
                         fitting += 1;
@@ -84,7 +84,7 @@ fn synthesis_undoes_analysis_wherever_that_fits() {
 
 #[test]
 fn depth_0_is_the_padded_plane() {
-    let p = parameters(2, 1, 0, 0, false);
+    let p = plain(2, 1, 0, 0, false);
     let plane = [1 << 70, -5];
     let analysis = analyse(&p, &plane).unwrap();
     assert_eq!(analysis.coefficients, plane);
@@ -96,7 +96,7 @@ fn depth_0_is_the_padded_plane() {
 fn analysis_tells_of_every_assigned_number() {
     // Index 4 multiplies by 2; index 3 by 1, which counts too.
     let fits = |wavelet, plane: [i128; 4]| {
-        let p = parameters(2, 2, 1, wavelet, false);
+        let p = plain(2, 2, 1, wavelet, false);
         analyse(&p, &plane).unwrap().fits
     };
     let half = 1i128 << 30;
@@ -110,12 +110,9 @@ fn analysis_tells_of_every_assigned_number() {
     // The rows' steps give numbers that fit, the number multiplied by 1 doesn't.
     assert!(!fits(3, [full, full - 4, full, full - 4]));
     assert_eq!(
-        analyse(
-            &parameters(2, 2, 1, 3, false),
-            &[full, full - 4, full, full - 4]
-        )
-        .unwrap()
-        .coefficients,
+        analyse(&plain(2, 2, 1, 3, false), &[full, full - 4, full, full - 4])
+            .unwrap()
+            .coefficients,
         [full - 2, -4, 0, 0]
     );
     // A difference between the extremes doesn't fit, though every given number does.
@@ -127,7 +124,7 @@ fn analysis_of_large_numbers() {
     // A constant plane: index 3 keeps it in LL, index 4 doubles it at each level.
     for power in [40, 60, 80] {
         let constant = -(1i128 << power);
-        let mut p = parameters(8, 8, 3, 3, false);
+        let mut p = plain(8, 8, 3, 3, false);
         let analysis = analyse(&p, &[constant; 64]).unwrap();
         assert!(!analysis.fits);
         assert_eq!(analysis.coefficients[0], constant);
@@ -140,7 +137,7 @@ fn analysis_of_large_numbers() {
     // The largest numbers, with every wavelet.
     let mut random = Random::new(5);
     for wavelet in 0..7 {
-        let p = parameters(16, 16, 4, wavelet, false);
+        let p = plain(16, 16, 4, wavelet, false);
         let limit = reference::ANALYSIS_LIMIT;
         let plane: Vec<i128> = (0..256)
             .map(|_| if random.flag() { limit } else { -limit })
@@ -152,14 +149,14 @@ fn analysis_of_large_numbers() {
 #[test]
 #[should_panic(expected = "beyond the limit")]
 fn analysis_of_too_large_numbers_panics() {
-    let p = parameters(1, 1, 0, 0, false);
+    let p = plain(1, 1, 0, 0, false);
     let _ = analyse(&p, &[reference::ANALYSIS_LIMIT + 1]);
 }
 
 #[test]
 fn subbands_in_stream_order_cover_the_plane() {
     for (width, height, depth) in [(1, 1, 0), (9, 5, 1), (17, 33, 3), (40, 1, 4)] {
-        let p = parameters(width, height, depth, 0, false);
+        let p = plain(width, height, depth, 0, false);
         let mut covered = vec![0; padded_area(&p)];
         let bands = subbands(&p);
         assert_eq!(bands.len(), 1 + 3 * depth as usize);
@@ -172,7 +169,7 @@ fn subbands_in_stream_order_cover_the_plane() {
         }
         assert!(covered.iter().all(|&times| times == 1));
     }
-    let p = parameters(13, 21, 2, 0, false);
+    let p = plain(13, 21, 2, 0, false);
     assert_eq!((padded_width(&p), padded_height(&p)), (16, 24));
     let list: Vec<_> = subbands(&p)
         .iter()
@@ -219,7 +216,7 @@ fn codeblocks_cover_a_subband_once() {
 
 /// Random parameters in range, of small pictures.
 fn random_parameters(random: &mut Random) -> Parameters {
-    let mut p = parameters(
+    let mut p = plain(
         random.range(1, 40) as u32,
         random.range(1, 40) as u32,
         random.range(0, 4) as u32,
@@ -258,14 +255,14 @@ fn random_options(random: &mut Random, indices: &[u32]) -> EncodeOptions {
 
 /// Random coefficients, many of them 0, none so large that a residual doesn't fit.
 fn random_coefficients(random: &mut Random, p: &Parameters) -> Vec<i32> {
-    let spread = random.pick(&[1, 3, 200, 100_000, 1 << 29]);
+    let bound = random.pick(&[1, 3, 200, 100_000, 1 << 29]);
     let zeros = random.range(0, 6);
     (0..padded_area(p))
         .map(|_| {
             if random.range(0, 6) < zeros {
                 0
             } else {
-                random.range(-spread, spread) as i32
+                random.range(-bound, bound) as i32
             }
         })
         .collect()
@@ -294,7 +291,7 @@ fn bodies_at_index_0_unpack_to_their_coefficients() {
 #[test]
 fn bodies_with_the_most_codeblocks() {
     let mut random = Random::new(9);
-    let mut p = parameters(20, 11, 2, 0, true);
+    let mut p = plain(20, 11, 2, 0, true);
     p.codeblocks_across = [255, 1, 255, 1, 1];
     p.codeblocks_down = [255, 255, 1, 1, 1];
     let coefficients = random_coefficients(&mut random, &p);
@@ -368,8 +365,8 @@ fn quantised_bodies_unpack_to_dequantised_values() {
             let step = dequantise(1, index) as i64;
             for y in band.top..band.top + band.height {
                 for x in band.left..band.left + band.width {
-                    let place = y * padded_width(&p) + x;
-                    let error = i64::from(plane[place]) - i64::from(coefficients[place]);
+                    let entry = y * padded_width(&p) + x;
+                    let error = i64::from(plane[entry]) - i64::from(coefficients[entry]);
                     assert!(error.abs() <= step);
                 }
             }

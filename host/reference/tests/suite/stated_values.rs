@@ -68,7 +68,7 @@ fn offsets_and_small_values() {
 
 #[test]
 fn quantiser_index_115_and_116() {
-    let p = parameters(1, 1, 0, 0, false);
+    let p = plain(1, 1, 0, 0, false);
     assert_eq!(quantiser_factor(115), 1_805_811_301);
     let four = bits("00011 0");
     assert_eq!(
@@ -127,7 +127,7 @@ fn number_codes_of_31_and_32_data_bits() {
 
 #[test]
 fn too_long_codes_in_a_body() {
-    let p = parameters(1, 1, 0, 0, false);
+    let p = plain(1, 1, 0, 0, false);
     // As a length, as an index, as a value.
     assert_eq!(run_unpack(&p, &[0; 9]), (answer(7, 0), vec![0]));
     assert_eq!(run_unpack(&p, &[0; 7]), (answer(6, 0), vec![0]));
@@ -149,7 +149,7 @@ fn too_long_codes_in_a_body() {
 
 #[test]
 fn empty_bytes() {
-    let p = parameters(3, 2, 2, 1, true);
+    let p = plain(3, 2, 2, 1, true);
     assert_eq!(run_unpack(&p, &[]), (answer(6, 0), vec![0; 16]));
     assert_eq!(
         run_decode(&p, &[]),
@@ -166,7 +166,7 @@ fn value(number: i64) -> Vec<u8> {
 
 #[test]
 fn extremes_of_32_bits_unpacked() {
-    let p = parameters(1, 1, 0, 0, true);
+    let p = plain(1, 1, 0, 0, true);
     let unpacked = |number| run_unpack(&p, &subband_bytes(0, &value(number)));
     let largest = i64::from(i32::MAX);
     let smallest = i64::from(i32::MIN);
@@ -191,7 +191,7 @@ fn numbers(list: &[i64]) -> Vec<u8> {
 
 #[test]
 fn extremes_of_32_bits_predicted() {
-    let p = parameters(2, 1, 0, 0, true);
+    let p = plain(2, 1, 0, 0, true);
     let largest = i64::from(i32::MAX);
     let smallest = i64::from(i32::MIN);
     assert_eq!(run_unpack(&p, &numbers(&[largest, 0])).1, [i32::MAX; 2]);
@@ -208,10 +208,10 @@ fn extremes_of_32_bits_predicted() {
         (answer(9, 0), vec![0; 2])
     );
     // Without prediction both stand.
-    let p = parameters(2, 1, 0, 0, false);
+    let p = plain(2, 1, 0, 0, false);
     assert_eq!(run_unpack(&p, &numbers(&[largest, 1])).1, [i32::MAX, 1]);
     // A sum of three extremes is taken whole: floor((3 largest + 1) / 3) is the largest.
-    let p = parameters(2, 2, 0, 0, true);
+    let p = plain(2, 2, 0, 0, true);
     assert_eq!(
         run_unpack(&p, &numbers(&[largest, 0, 0, 0])).1,
         [i32::MAX; 4]
@@ -225,12 +225,12 @@ fn extremes_of_32_bits_predicted() {
 #[test]
 fn extremes_of_32_bits_synthesised() {
     // Depth 0 assigns nothing.
-    let p = parameters(2, 1, 0, 3, false);
+    let p = plain(2, 1, 0, 3, false);
     assert_eq!(
         run_synthesise(&p, &[i32::MIN, i32::MAX]),
         (answer(0, 0), vec![0; 2], vec![i32::MIN, i32::MAX])
     );
-    let p = parameters(2, 2, 1, 3, false);
+    let p = plain(2, 2, 1, 3, false);
     assert_eq!(run_synthesise(&p, &[i32::MAX, 0, 0, 0]).2, [i32::MAX; 4]);
     assert_eq!(run_synthesise(&p, &[i32::MIN, 0, 0, 0]).2, [i32::MIN; 4]);
     // LH 1 takes 1 from the even row, -2 adds 1 to it.
@@ -252,7 +252,7 @@ fn extremes_of_32_bits_synthesised() {
 #[test]
 fn sums_inside_a_step_may_be_larger() {
     // Index 1: each odd number is the mean of two largest ones; then the shift adds 1 first.
-    let p = parameters(4, 4, 1, 1, false);
+    let p = plain(4, 4, 1, 1, false);
     let mut coefficients = [0; 16];
     for place in [0, 1, 4, 5] {
         coefficients[place] = i32::MAX;
@@ -266,7 +266,7 @@ fn sums_inside_a_step_may_be_larger() {
 #[test]
 fn numbers_before_the_shift_count() {
     // Index 4: 2 + (largest - 1) is too large, though shifted down it would fit.
-    let p = parameters(2, 2, 1, 4, false);
+    let p = plain(2, 2, 1, 4, false);
     assert_eq!(run_synthesise(&p, &[i32::MAX, 2, 0, 0]).0, answer(10, 1));
     assert_eq!(
         run_synthesise(&p, &[i32::MAX, 1, 0, 0]).2,
@@ -281,7 +281,7 @@ fn numbers_between_the_steps_count() {
     let mut line = [i128::from(i32::MAX), 0];
     assert!(!filter_line(FILTERS[6].steps, &mut line));
     assert!(line.iter().all(|&number| i32::try_from(number).is_ok()));
-    let p = parameters(2, 2, 1, 6, false);
+    let p = plain(2, 2, 1, 6, false);
     assert_eq!(
         run_synthesise(&p, &[i32::MAX, 0, 0, 0]),
         (answer(10, 1), vec![0; 4], vec![0; 4])
@@ -292,7 +292,7 @@ fn numbers_between_the_steps_count() {
 #[test]
 fn numbers_outside_the_crop_count() {
     // Column 1 of the padded picture doesn't fit and isn't kept.
-    let p = parameters(1, 1, 1, 3, false);
+    let p = plain(1, 1, 1, 3, false);
     assert_eq!(
         run_synthesise(&p, &[i32::MAX, i32::MAX, 0, 0]),
         (answer(10, 1), vec![0; 4], vec![0])
@@ -302,7 +302,7 @@ fn numbers_outside_the_crop_count() {
 
 #[test]
 fn the_first_level_that_does_not_fit_is_the_place() {
-    let p = parameters(4, 4, 2, 3, false);
+    let p = plain(4, 4, 2, 3, false);
     let mut coefficients = [0; 16];
     coefficients[0] = i32::MAX;
     assert_eq!(run_synthesise(&p, &coefficients).2, [i32::MAX; 16]);

@@ -25,7 +25,7 @@ fn output_text() {
 
 #[test]
 fn written_recording_is_the_file() {
-    let mut p = parameters(2, 2, 1, 3, true);
+    let mut p = plain(2, 2, 1, 3, true);
     p.codeblocks_across = [0; 5];
     p.codeblocks_down = [0; 5];
     let entry = Entry {
@@ -37,7 +37,7 @@ fn written_recording_is_the_file() {
 
 #[test]
 fn coefficients_and_samples() {
-    let p = parameters(2, 2, 1, 3, true);
+    let p = plain(2, 2, 1, 3, true);
     assert_eq!(run_unpack(&p, &BODY), (answer(0, 8), vec![10, 4, -2, 1]));
     assert_eq!(
         run_synthesise(&p, &[10, 4, -2, 1]),
@@ -75,7 +75,7 @@ fn rows_before_columns_would_differ() {
 
 #[test]
 fn analysis_and_encoding_lead_back() {
-    let p = parameters(2, 2, 1, 3, true);
+    let p = plain(2, 2, 1, 3, true);
     let analysis = analyse(&p, &[9, 12, 7, 11]).unwrap();
     assert_eq!(analysis.coefficients, [10, 4, -2, 1]);
     assert!(analysis.fits);

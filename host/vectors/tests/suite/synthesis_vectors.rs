@@ -2,8 +2,10 @@
 
 use crate::common::{answer, assert_stored, assert_writes_vectors, program_folder};
 use reference::params::padded_area;
-use reference::vectors::{level_end_fits, run, synthesis_jobs, synthesis_vectors, Job};
 use reference::Answer;
+use vectors::synthesis_vectors::{
+    level_end_fits, run, synthesis_jobs, synthesis_vectors, SynthesisJob,
+};
 
 #[test]
 fn stored_vectors_are_those_of_the_reference() {
@@ -20,18 +22,18 @@ fn the_command_writes_the_vectors() {
 
 #[test]
 fn every_kind_of_job_is_there() {
-    let jobs: Vec<(Job, Answer)> = synthesis_jobs()
+    let jobs: Vec<(SynthesisJob, Answer)> = synthesis_jobs()
         .into_iter()
         .map(|job| {
             let answer = run(&job).0;
             (job, answer)
         })
         .collect();
-    let count = |kind: &dyn Fn(&Job, Answer) -> bool| {
+    let count = |kind: &dyn Fn(&SynthesisJob, Answer) -> bool| {
         jobs.iter().filter(|(job, given)| kind(job, *given)).count()
     };
     for wavelet in 0..7 {
-        let of = |job: &Job| job.parameters.wavelet == wavelet;
+        let of = |job: &SynthesisJob| job.parameters.wavelet == wavelet;
         for depth in 0..=4 {
             let accepted = count(&|job, given| {
                 of(job) && job.parameters.depth == depth && given == answer(0, 0)

@@ -1,4 +1,4 @@
-//! Interleaved timing: every contestant has a turn in every round, and its best turn counts.
+//! Interleaved timing: everything that is timed has a turn in every round, and its best turn counts.
 
 use crate::clock::processor_time;
 
@@ -6,7 +6,7 @@ use crate::clock::processor_time;
 const LEAST_SAMPLES: usize = 1 << 20;
 
 /// Something to time.
-pub struct Contestant<'a> {
+pub struct Timed<'a> {
     samples: usize,
     runs: usize,
     rounds: usize,
@@ -14,11 +14,11 @@ pub struct Contestant<'a> {
     best_seconds: f64,
 }
 
-impl<'a> Contestant<'a> {
-    /// A contestant that makes this many samples in a run, and takes part in the first rounds.
-    pub fn new(samples: usize, rounds: usize, run: impl FnMut() + 'a) -> Contestant<'a> {
+impl<'a> Timed<'a> {
+    /// Something that makes this many samples in a run, and takes part in the first rounds.
+    pub fn new(samples: usize, rounds: usize, run: impl FnMut() + 'a) -> Timed<'a> {
         let runs = LEAST_SAMPLES.div_ceil(samples);
-        Contestant::repeated(samples, runs, rounds, run)
+        Timed::repeated(samples, runs, rounds, run)
     }
 
     /// The same with so many runs a turn.
@@ -27,8 +27,8 @@ impl<'a> Contestant<'a> {
         runs: usize,
         rounds: usize,
         run: impl FnMut() + 'a,
-    ) -> Contestant<'a> {
-        Contestant {
+    ) -> Timed<'a> {
+        Timed {
             samples,
             runs,
             rounds,
@@ -58,13 +58,13 @@ impl<'a> Contestant<'a> {
     }
 }
 
-/// Has the contestants take turns until each has had its rounds.
-pub fn race(contestants: &mut [Contestant]) {
-    let rounds = contestants.iter().map(|c| c.rounds).max().unwrap_or(0);
+/// Has all take turns until each has had its rounds.
+pub fn take_turns(timed: &mut [Timed]) {
+    let rounds = timed.iter().map(|c| c.rounds).max().unwrap_or(0);
     for round in 0..rounds {
-        for contestant in contestants.iter_mut() {
-            if round < contestant.rounds {
-                contestant.take_turn();
+        for one in timed.iter_mut() {
+            if round < one.rounds {
+                one.take_turn();
             }
         }
     }

@@ -6,9 +6,10 @@ use reference::params::{padded_area, padded_width, subbands, Subband};
 use reference::recording::parse;
 use reference::transform::fits_32_bits;
 use reference::unpack::codeblock_start;
-use reference::vectors::{filtered_level, level_end_fits, Job};
 use reference::{read_recording, Entry, Parameters};
 use std::collections::BTreeSet;
+use vectors::runs::run_unpack;
+use vectors::synthesis_vectors::{filtered_level, level_end_fits, SynthesisJob};
 
 const REFUSED: &str = "refused 11\n";
 
@@ -153,10 +154,10 @@ fn every_refusal_is_there() {
 }
 
 /// The call of synthesise that decoding an entry makes.
-fn synthesis_job(entry: &Entry) -> Job {
+fn synthesis_job(entry: &Entry) -> SynthesisJob {
     let (given, coefficients) = run_unpack(&entry.parameters, &entry.body);
     assert_eq!(given.status, 0);
-    Job {
+    SynthesisJob {
         parameters: entry.parameters.clone(),
         coefficients,
     }
@@ -164,7 +165,7 @@ fn synthesis_job(entry: &Entry) -> Job {
 
 /// Whether the numbers that pad removal keeps fit 32 bits after the filters of a job of depth 1, though
 /// others don't.
-fn kept_part_fits(job: &Job) -> bool {
+fn kept_part_fits(job: &SynthesisJob) -> bool {
     let p = &job.parameters;
     let picture = filtered_level(job);
     let fits = |width: usize, height: usize| {

@@ -1,30 +1,27 @@
-//! Stored recordings, and the output that the program owes for them.
+//! Stored recordings, and the output that is expected of the program for them.
 //!
-//! Each recording has a name; `reference recordings DIR` writes NAME.rec and NAME.txt. Bodies come
-//! from [`mod@crate::encode`], a seeded generator, or single bits, and every text from
+//! Each recording has a name; `vectors recordings DIR` writes NAME.rec and NAME.txt. Bodies come
+//! from [`mod@reference::encode`], a seeded generator, or single bits, and every text from
 //! [`read_recording`], so the files are the same in every run.
 //!
 //! Here are recordings of accepted entries, and of accepted ones beside refused ones;
 //! [`crate::refused_recordings`] has those made for refusals 1 to 10, [`crate::wrong_tables`] those whose
 //! table is wrong or nearly so.
 
-use crate::encode::{
-    encode_body, encode_coefficients, encode_subbands, picture_coefficients, EncodeOptions,
-    SubbandOptions,
-};
-use crate::params::{
-    padded_area, padded_width, subband, subbands, Orientation, Parameters, MAX_QUANTISER,
-};
+use crate::pictures::{encode_coefficients, picture_coefficients};
 use crate::pieces::{
-    bits, joined, parameters, random_body, random_options, signed_numbers, sparse_body,
-    subband_bytes, with_codeblocks, with_random_codeblocks, EARLY_ENDS_OF_ONE, EARLY_ENDS_OF_TWO,
+    bits, joined, plain, random_body, random_options, signed_numbers, sparse_body, subband_bytes,
+    with_codeblocks, with_random_codeblocks, EARLY_ENDS_OF_ONE, EARLY_ENDS_OF_TWO,
 };
 use crate::random::Random;
-use crate::recording::{read_recording, write_recording, Entry};
 use crate::refused_recordings::refused_recordings;
-use crate::vectors;
-use crate::vectors::edge_jobs;
+use crate::synthesis_vectors::{edge_jobs, SynthesisJob};
 use crate::wrong_tables::table_recordings;
+use reference::encode::{encode_body, encode_subbands, EncodeOptions, SubbandOptions};
+use reference::params::{
+    padded_area, padded_width, subband_at, subbands, Orientation, Parameters, MAX_QUANTISER,
+};
+use reference::recording::{read_recording, write_recording, Entry};
 
 /// A recording and its name.
 pub struct Recording {
@@ -67,7 +64,7 @@ pub fn recordings() -> Vec<Recording> {
 }
 
 /// An entry of these parameters and this body.
-pub fn entry(p: &Parameters, body: Vec<u8>) -> Entry {
+pub fn entry_of(p: &Parameters, body: Vec<u8>) -> Entry {
     Entry {
         parameters: p.clone(),
         body,
@@ -75,17 +72,17 @@ pub fn entry(p: &Parameters, body: Vec<u8>) -> Entry {
 }
 
 /// An entry of a call of synthesise: its coefficients in a body.
-pub fn synthesis_entry(job: &vectors::Job) -> Entry {
+pub fn synthesis_entry(job: &SynthesisJob) -> Entry {
     let p = &job.parameters;
     assert!(!p.intra);
     let options = EncodeOptions::uniform(p, SubbandOptions::default());
-    entry(p, encode_body(p, &job.coefficients, &options))
+    entry_of(p, encode_body(p, &job.coefficients, &options))
 }
 
 /// An entry that states a picture: its samples, repeated into the padding, analysed and quantised.
 pub fn picture_entry(p: &Parameters, samples: &[i64], options: &EncodeOptions) -> Entry {
     let coefficients = picture_coefficients(p, samples);
-    entry(p, encode_coefficients(p, &coefficients, options))
+    entry_of(p, encode_coefficients(p, &coefficients, options))
 }
 
 /// An entry of a picture with a slope, a sharp edge of a height and some noise, its layout and its
@@ -116,8 +113,8 @@ pub fn random_picture(random: &mut Random, p: &Parameters, height_of_edge: i64) 
 
 /// An entry of numbers at random, half of them 0, in every subband.
 fn random_entry(random: &mut Random, p: &Parameters) -> Entry {
-    let spread = 1 << random.range(0, 12);
-    entry(p, random_body(random, p, spread))
+    let bound = 1 << random.range(0, 12);
+    entry_of(p, random_body(random, p, bound))
 }
 
 /// Every wavelet and depth: a picture, and a small component of numbers at random, one of them intra;
@@ -133,12 +130,12 @@ fn wavelet_recordings() -> Vec<Recording> {
             let k = (wavelet + depth) as usize;
             let intra = k.is_multiple_of(2);
             let (width, height) = large[k % large.len()];
-            let p = parameters(width, height, depth, wavelet, intra);
+            let p = plain(width, height, depth, wavelet, intra);
             let p = with_random_codeblocks(&mut random, &p);
             let height_of_edge = random.pick(&[-90, 60, 120]);
             entries.push(random_picture(&mut random, &p, height_of_edge));
             let (width, height) = small[k % small.len()];
-            let p = parameters(width, height, depth, wavelet, !intra);
+            let p = plain(width, height, depth, wavelet, !intra);
             let p = with_random_codeblocks(&mut random, &p);
             entries.push(random_entry(&mut random, &p));
         }
@@ -174,16 +171,16 @@ fn size_recordings() -> Vec<Recording> {
         for (k, &(width, height)) in sizes.iter().enumerate() {
             let intra = k % 2 == 0;
             let k = k as u32;
-            let p = parameters(width, height, k % 5, k, intra);
+            let p = plain(width, height, k % 5, k, intra);
             entries.push(random_entry(&mut random, &p));
-            let p = parameters(width, height, (k + 1) % 5, 6 - k, intra);
+            let p = plain(width, height, (k + 1) % 5, 6 - k, intra);
             entries.push(random_entry(&mut random, &p));
         }
         recordings.push(Recording::new(name, &entries));
     }
     for (name, p) in [
-        ("size-4096-by-4", parameters(4096, 4, 2, 2, true)),
-        ("size-4-by-4096", parameters(4, 4096, 1, 6, false)),
+        ("size-4096-by-4", plain(4096, 4, 2, 2, true)),
+        ("size-4-by-4096", plain(4, 4096, 1, 6, false)),
     ] {
         let p = with_random_codeblocks(&mut random, &p);
         recordings.push(Recording::new(name, &[random_picture(&mut random, &p, 9)]));
@@ -194,11 +191,8 @@ fn size_recordings() -> Vec<Recording> {
 /// Padded areas of 16,384, the largest there may be.
 fn area_recordings() -> Vec<Recording> {
     let mut random = Random::new(26);
-    let square = with_codeblocks(&parameters(128, 128, 4, 0, true), 3, 3);
-    let padded = [
-        parameters(1, 1024, 4, 1, true),
-        parameters(1009, 1, 4, 5, false),
-    ];
+    let square = with_codeblocks(&plain(128, 128, 4, 0, true), 3, 3);
+    let padded = [plain(1, 1024, 4, 1, true), plain(1009, 1, 4, 5, false)];
     vec![
         Recording::new(
             "area-16384-of-128-by-128",
@@ -221,7 +215,7 @@ fn codeblock_recordings() -> Vec<Recording> {
     let mut entries = Vec::new();
     for (across, down) in [(3, 1), (1, 3), (2, 1), (1, 255)] {
         for intra in [true, false] {
-            let p = with_codeblocks(&parameters(7, 5, 2, 1, intra), across, down);
+            let p = with_codeblocks(&plain(7, 5, 2, 1, intra), across, down);
             let mut with_zeros = random_entry(&mut random, &p);
             let zero = |count: u32| if count == 1 { 0 } else { count };
             with_zeros.parameters.codeblocks_across = p.codeblocks_across.map(zero);
@@ -236,7 +230,7 @@ fn codeblock_recordings() -> Vec<Recording> {
 
     let mut entries = Vec::new();
     for depth in 0..=4 {
-        let p = parameters(6, 7, depth, depth, depth % 2 == 0);
+        let p = plain(6, 7, depth, depth, depth % 2 == 0);
         let mut with_zeros = random_entry(&mut random, &p);
         with_zeros.parameters = with_codeblocks(&p, 0, 0);
         entries.push(with_zeros);
@@ -247,7 +241,7 @@ fn codeblock_recordings() -> Vec<Recording> {
     let mut entries = Vec::new();
     for depth in 0..4 {
         for above in [0, 2, 255] {
-            let p = with_codeblocks(&parameters(5, 9, depth, 2, above == 2), 2, 1);
+            let p = with_codeblocks(&plain(5, 9, depth, 2, above == 2), 2, 1);
             let mut changed = random_entry(&mut random, &p);
             for level in depth as usize + 1..5 {
                 changed.parameters.codeblocks_across[level] = above;
@@ -261,9 +255,9 @@ fn codeblock_recordings() -> Vec<Recording> {
     let mut entries = Vec::new();
     for (width, height) in [(5, 4), (2, 3), (8, 1), (17, 3)] {
         for (across, down) in [(7, 2), (2, 9), (255, 1), (1, 255)] {
-            let p = with_codeblocks(&parameters(width, height, 1, 0, across == 7), across, down);
+            let p = with_codeblocks(&plain(width, height, 1, 0, across == 7), across, down);
             let body = sparse_body(&mut random, &p, SubbandOptions::default());
-            entries.push(entry(&p, body));
+            entries.push(entry_of(&p, body));
         }
     }
     recordings.push(Recording::new("codeblocks-more-than-columns", &entries));
@@ -275,14 +269,14 @@ fn codeblock_recordings() -> Vec<Recording> {
         let mut entries = Vec::new();
         for (across, down) in [(2, 1), (1, 2), (4, 3), (8, 8), (13, 5)] {
             for intra in [false, true] {
-                let p = with_codeblocks(&parameters(11, 9, 2, 4, intra), across, down);
+                let p = with_codeblocks(&plain(11, 9, 2, 4, intra), across, down);
                 let options = SubbandOptions {
                     quantiser: 6,
                     skip_if_zero: false,
                     flag_zero_codeblocks,
                     ..SubbandOptions::default()
                 };
-                entries.push(entry(&p, sparse_body(&mut random, &p, options)));
+                entries.push(entry_of(&p, sparse_body(&mut random, &p, options)));
             }
         }
         recordings.push(Recording::new(name, &entries));
@@ -290,7 +284,7 @@ fn codeblock_recordings() -> Vec<Recording> {
 
     let mut entries = Vec::new();
     for intra in [false, true] {
-        let p = with_codeblocks(&parameters(4, 4, 0, 1, intra), 2, 2);
+        let p = with_codeblocks(&plain(4, 4, 0, 1, intra), 2, 2);
         for data in [
             "0 0010 0011 1 1 1 1 1",
             "1 0 0010 1 1 1 1 1",
@@ -298,7 +292,7 @@ fn codeblock_recordings() -> Vec<Recording> {
             "0 1 1 1 0110 1 1 0 0010 0010 0010 0010",
             "1 1 1 1",
         ] {
-            entries.push(entry(&p, subband_bytes(0, &bits(data))));
+            entries.push(entry_of(&p, subband_bytes(0, &bits(data))));
         }
     }
     recordings.push(Recording::new(
@@ -307,26 +301,26 @@ fn codeblock_recordings() -> Vec<Recording> {
     ));
 
     // Only the last of 65,025 codeblocks has the value, behind the flags of all the others.
-    let p = with_codeblocks(&parameters(1, 1, 0, 5, true), 255, 255);
+    let p = with_codeblocks(&plain(1, 1, 0, 5, true), 255, 255);
     let entries = [
         vec![0xFF],
         vec![0x00],
         joined(vec![0x00; 8128], &bits("0 011 1 000")),
         joined(vec![0xFF; 8128], &bits("0 011 0 000")),
     ]
-    .map(|data| entry(&p, subband_bytes(10, &data)));
+    .map(|data| entry_of(&p, subband_bytes(10, &data)));
     recordings.push(Recording::new("codeblocks-255-by-255", &entries));
     recordings
 }
 
 /// Every quantiser index: 13 to a component of depth 4, and the highest, 4 to one of depth 1. One number
-/// of each subband is 1 or -1, not all at the same place, so that no sum leaves 32 bits.
+/// of each subband is 1 or -1, not all at the same position, so that no sum leaves 32 bits.
 fn quantiser_recordings() -> Vec<Recording> {
     let mut entries = Vec::new();
     let mut index = 0;
     while index <= MAX_QUANTISER {
         let depth = if index < 104 { 4 } else { 1 };
-        let p = parameters(2 << depth, 2 << depth, depth, 3, false);
+        let p = plain(2 << depth, 2 << depth, depth, 3, false);
         let mut plane = vec![0i64; padded_area(&p)];
         let mut options = EncodeOptions::uniform(&p, SubbandOptions::default());
         for (k, band) in subbands(&p).iter().enumerate() {
@@ -335,7 +329,7 @@ fn quantiser_recordings() -> Vec<Recording> {
             options.subbands[k].quantiser = index;
             index += 1;
         }
-        entries.push(entry(&p, encode_body(&p, &plane, &options)));
+        entries.push(entry_of(&p, encode_body(&p, &plane, &options)));
     }
     vec![Recording::new("quantiser-every-index", &entries)]
 }
@@ -349,7 +343,7 @@ fn byte_recordings() -> Vec<Recording> {
     let mut entries = Vec::new();
     for behind in [&[0x00][..], &[0xFF; 3], &[0x00; 40], &[0x30, 0x16, 0x80]] {
         for depth in [0, 3] {
-            let p = parameters(6, 5, depth, 4, depth == 0);
+            let p = plain(6, 5, depth, 4, depth == 0);
             let mut longer = random_entry(&mut random, &p);
             longer.body.extend(behind);
             entries.push(longer);
@@ -358,13 +352,13 @@ fn byte_recordings() -> Vec<Recording> {
     recordings.push(Recording::new("bytes-after-the-used-part", &entries));
 
     // The same numbers with 0, 1, 2 and 30 bytes of the length not used in each subband.
-    let p = with_codeblocks(&parameters(9, 6, 2, 2, true), 2, 2);
+    let p = with_codeblocks(&plain(9, 6, 2, 2, true), 2, 2);
     let plane: Vec<i64> = (0..padded_area(&p)).map(|_| random.range(-9, 9)).collect();
     let layout = |change: &dyn Fn(&mut SubbandOptions)| {
         let mut options = SubbandOptions::default();
         change(&mut options);
         let options = EncodeOptions::uniform(&p, options);
-        entry(&p, encode_body(&p, &plane, &options))
+        entry_of(&p, encode_body(&p, &plane, &options))
     };
     let entries = [0, 1, 2, 30].map(|slack| layout(&|options| options.slack = vec![0x2A; slack]));
     recordings.push(Recording::new("bytes-unused-in-a-length", &entries));
@@ -376,27 +370,27 @@ fn byte_recordings() -> Vec<Recording> {
         ("bits-past-the-length", EARLY_ENDS_OF_ONE, 1),
         ("bits-past-the-length-with-flags", EARLY_ENDS_OF_TWO, 2),
     ] {
-        let p = with_codeblocks(&parameters(5, 2, 0, 0, false), across, 1);
+        let p = with_codeblocks(&plain(5, 2, 0, 0, false), across, 1);
         let entries =
-            texts.map(|text| entry(&p, joined(subband_bytes(0, &bits(text)), &[0, 0, 0])));
+            texts.map(|text| entry_of(&p, joined(subband_bytes(0, &bits(text)), &[0, 0, 0])));
         recordings.push(Recording::new(name, &entries));
     }
 
     let mut entries = Vec::new();
     for skipped in [0x80, 0xFF, 0xA5] {
         for depth in [0, 1, 4] {
-            let p = parameters(3, 4, depth, 6, true);
-            entries.push(entry(&p, vec![skipped; 13]));
+            let p = plain(3, 4, depth, 6, true);
+            entries.push(entry_of(&p, vec![skipped; 13]));
         }
         // Some of the subbands alone.
-        let p = parameters(8, 8, 2, 0, true);
+        let p = plain(8, 8, 2, 0, true);
         let plane: Vec<i64> = (0..padded_area(&p)).map(|_| random.range(1, 9)).collect();
         let options = EncodeOptions::uniform(&p, SubbandOptions::default());
         let mut bands = encode_subbands(&p, &plane, &options);
         for number in [1, 2, 5] {
             bands[number] = vec![skipped];
         }
-        entries.push(entry(&p, bands.concat()));
+        entries.push(entry_of(&p, bands.concat()));
     }
     recordings.push(Recording::new("subbands-of-length-0", &entries));
     recordings
@@ -416,8 +410,8 @@ fn extreme_recordings() -> Vec<Recording> {
         (true, [-1, min + 1, 0, 0, 0, 0]),
     ] {
         for (width, height) in [(6, 1), (3, 2), (1, 6)] {
-            let p = parameters(width, height, 0, 0, intra);
-            entries.push(entry(&p, subband_bytes(0, &signed_numbers(&list))));
+            let p = plain(width, height, 0, 0, intra);
+            entries.push(entry_of(&p, subband_bytes(0, &signed_numbers(&list))));
         }
     }
     recordings.push(Recording::new("extremes-as-values", &entries));
@@ -427,12 +421,12 @@ fn extreme_recordings() -> Vec<Recording> {
     for depth in 1..=4 {
         for value in [max, min] {
             for intra in [false, true] {
-                let p = parameters(5, 3, depth, 3, intra);
-                let low = subband(&p, 0, Orientation::LL);
+                let p = plain(5, 3, depth, 3, intra);
+                let low = subband_at(&p, 0, Orientation::LL);
                 let mut list = vec![0; low.width * low.height];
                 list[0] = value;
                 let body = subband_bytes(0, &signed_numbers(&list));
-                entries.push(entry(&p, joined(body, &[0x80; 12])));
+                entries.push(entry_of(&p, joined(body, &[0x80; 12])));
             }
         }
     }
@@ -443,7 +437,7 @@ fn extreme_recordings() -> Vec<Recording> {
     recordings.push(Recording::new("extremes-of-a-lifting-step", &entries));
 
     // Codes of 30 and 31 data bits, ended by a 1 or by the end of the data, which is a minus too.
-    let p = parameters(3, 1, 0, 0, false);
+    let p = plain(3, 1, 0, 0, false);
     let mut entries = Vec::new();
     for list in [
         [(1 << 30) - 1, 1 - (1 << 30), 5],
@@ -451,11 +445,11 @@ fn extreme_recordings() -> Vec<Recording> {
         [1, max, min],
         [min, max, -1],
     ] {
-        entries.push(entry(&p, subband_bytes(0, &signed_numbers(&list))));
+        entries.push(entry_of(&p, subband_bytes(0, &signed_numbers(&list))));
     }
     for last in ["00 00", "00 01", "01 00"] {
         let data = bits(&["1 1", &"00".repeat(29), last].concat());
-        entries.push(entry(&p, joined(subband_bytes(0, &data), &[0; 4])));
+        entries.push(entry_of(&p, joined(subband_bytes(0, &data), &[0; 4])));
     }
     recordings.push(Recording::new("extremes-of-codes", &entries));
     recordings
@@ -466,7 +460,7 @@ fn entry_recordings() -> Vec<Recording> {
     let mut random = Random::new(29);
     let mut any = |k: u32| {
         let intra = k.is_multiple_of(3);
-        let p = parameters(1 + 2 * k % 11, 1 + 3 * k % 7, k % 5, k % 7, intra);
+        let p = plain(1 + 2 * k % 11, 1 + 3 * k % 7, k % 5, k % 7, intra);
         let p = with_random_codeblocks(&mut random, &p);
         random_entry(&mut random, &p)
     };
@@ -481,8 +475,8 @@ fn entry_recordings() -> Vec<Recording> {
     between[8].body.truncate(1);
     between[9].body.splice(0..0, [0; 8]);
     between[11].body.splice(0..0, subband_bytes(116, &[0xFF]));
-    between[13] = entry(
-        &parameters(2, 1, 0, 0, true),
+    between[13] = entry_of(
+        &plain(2, 1, 0, 0, true),
         subband_bytes(0, &signed_numbers(&[i64::from(i32::MIN), -1])),
     );
     between[14] = synthesis_entry(&edge_jobs()[1]);

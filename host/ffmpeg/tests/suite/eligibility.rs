@@ -1,15 +1,15 @@
 //! Every reason to set a component aside.
 
+use ffmpeg::eligibility::{expected_samples, is_clipped, Aside, Setting};
 use ffmpeg::proved::{self, Decoded};
 use ffmpeg::stream::BitDepth;
-use ffmpeg::vouch::{is_clipped, owed, Aside, Setting};
 use reference::encode::{encode_body, EncodeOptions, SubbandOptions};
 use reference::params::{padded_area, sample_area};
-use reference::pieces::parameters;
 use reference::Parameters;
+use vectors::pieces::plain;
 
 /// FFmpeg without its SIMD code.
-fn plain(bit_depth: BitDepth) -> Setting {
+fn in_plain_c(bit_depth: BitDepth) -> Setting {
     Setting {
         bit_depth,
         simd: false,
@@ -29,28 +29,28 @@ fn decoded(p: &Parameters, first: &[i32]) -> Decoded {
     let mut plane = vec![0; padded_area(p)];
     plane[..first.len()].copy_from_slice(first);
     // Level 0 is not predicted here, so that the coefficients are those given.
-    let plain = Parameters {
+    let inter = Parameters {
         intra: false,
         ..p.clone()
     };
-    let options = EncodeOptions::uniform(&plain, SubbandOptions::default());
-    let decoded = proved::decode(&plain, &encode_body(&plain, &plane, &options)).unwrap();
+    let options = EncodeOptions::uniform(&inter, SubbandOptions::default());
+    let decoded = proved::decode(&inter, &encode_body(&inter, &plane, &options)).unwrap();
     assert_eq!(decoded.coefficients, plane);
     decoded
 }
 
 /// Why a component with these first coefficients is set aside.
 fn aside(p: &Parameters, setting: Setting, first: &[i32]) -> Option<Aside> {
-    owed(p, setting, decoded(p, first)).err()
+    expected_samples(p, setting, decoded(p, first)).err()
 }
 
 #[test]
 fn parameters_that_ffmpeg_has_not() {
-    let eight = plain(BitDepth::Eight);
-    let p = parameters(16, 16, 2, 0, true);
+    let eight = in_plain_c(BitDepth::Eight);
+    let p = plain(16, 16, 2, 0, true);
     assert_eq!(aside(&p, eight, &[]), None);
     assert_eq!(
-        aside(&parameters(16, 16, 0, 0, true), eight, &[]),
+        aside(&plain(16, 16, 0, 0, true), eight, &[]),
         Some(Aside::Depth)
     );
     let split = |across, down| Parameters {
@@ -66,34 +66,34 @@ fn parameters_that_ffmpeg_has_not() {
 #[test]
 fn levels_too_narrow() {
     let setting = simd(BitDepth::Eight);
-    assert_eq!(aside(&parameters(16, 16, 2, 0, true), setting, &[]), None);
+    assert_eq!(aside(&plain(16, 16, 2, 0, true), setting, &[]), None);
     assert_eq!(
-        aside(&parameters(16, 16, 3, 0, true), setting, &[]),
+        aside(&plain(16, 16, 3, 0, true), setting, &[]),
         Some(Aside::NarrowSimd)
     );
-    let setting = plain(BitDepth::Eight);
-    assert_eq!(aside(&parameters(6, 16, 1, 2, true), setting, &[]), None);
+    let setting = in_plain_c(BitDepth::Eight);
+    assert_eq!(aside(&plain(6, 16, 1, 2, true), setting, &[]), None);
     assert_eq!(
-        aside(&parameters(4, 16, 1, 2, true), setting, &[]),
+        aside(&plain(4, 16, 1, 2, true), setting, &[]),
         Some(Aside::NarrowWavelet2)
     );
 }
 
 #[test]
 fn wavelet_6_has_another_halving_and_8_bits() {
-    let p = parameters(2, 2, 1, 6, true);
+    let p = plain(2, 2, 1, 6, true);
     assert_eq!(
-        aside(&p, plain(BitDepth::Ten), &[]),
+        aside(&p, in_plain_c(BitDepth::Ten), &[]),
         Some(Aside::DeepWavelet6)
     );
     let component = decoded(&p, &[19, 4, -2, 1]);
     let samples = component.samples.clone();
-    let owed = owed(&p, plain(BitDepth::Eight), component).unwrap();
-    assert!(!owed.proved);
+    let expected = expected_samples(&p, in_plain_c(BitDepth::Eight), component).unwrap();
+    assert!(!expected.proved);
     // Halving by floor((v + 1) / 2) gives one more than by floor(v / 2) where v is odd.
     let more: Vec<i32> = samples
         .iter()
-        .zip(&owed.samples)
+        .zip(&expected.samples)
         .map(|(a, b)| a - b)
         .collect();
     assert!(more.contains(&0) && more.contains(&1), "{more:?}");
@@ -102,15 +102,15 @@ fn wavelet_6_has_another_halving_and_8_bits() {
 
 #[test]
 fn numbers_out_of_ffmpegs_range() {
-    let twelve = plain(BitDepth::Twelve);
-    let p = parameters(8, 8, 1, 3, false);
+    let twelve = in_plain_c(BitDepth::Twelve);
+    let p = plain(8, 8, 1, 3, false);
     assert_eq!(aside(&p, twelve, &[(1 << 30) - 1]), None);
     assert_eq!(aside(&p, twelve, &[1 << 30]), Some(Aside::Dequantising));
     // This wavelet sums two neighbours.
-    let p = parameters(8, 8, 1, 1, false);
-    assert_eq!(aside(&p, plain(BitDepth::Eight), &[32767]), None);
+    let p = plain(8, 8, 1, 1, false);
+    assert_eq!(aside(&p, in_plain_c(BitDepth::Eight), &[32767]), None);
     assert_eq!(
-        aside(&p, plain(BitDepth::Eight), &[32768]),
+        aside(&p, in_plain_c(BitDepth::Eight), &[32768]),
         Some(Aside::Range)
     );
     assert_eq!(aside(&p, simd(BitDepth::Eight), &[16000]), None);
@@ -122,8 +122,8 @@ fn numbers_out_of_ffmpegs_range() {
 
 #[test]
 fn a_prediction_that_ffmpeg_approximates() {
-    let p = parameters(4, 4, 1, 1, true);
-    let twelve = plain(BitDepth::Twelve);
+    let p = plain(4, 4, 1, 1, true);
+    let twelve = in_plain_c(BitDepth::Twelve);
     let level_0 = |v: i32| [v, v, 0, 0, v, v];
     assert_eq!(aside(&p, twelve, &level_0(2000)), None);
     assert_eq!(aside(&p, twelve, &level_0(11_000)), Some(Aside::Prediction));
@@ -145,8 +145,8 @@ fn clipped_samples() {
         [-129, -128, 127, 128].map(|v| is_clipped(v, eight)),
         [true, false, false, true]
     );
-    let p = parameters(2, 2, 1, 3, true);
+    let p = plain(2, 2, 1, 3, true);
     assert_eq!(sample_area(&p), 4);
-    assert_eq!(aside(&p, plain(eight), &[127]), None);
-    assert_eq!(aside(&p, plain(eight), &[128]), Some(Aside::Clipped));
+    assert_eq!(aside(&p, in_plain_c(eight), &[127]), None);
+    assert_eq!(aside(&p, in_plain_c(eight), &[128]), Some(Aside::Clipped));
 }

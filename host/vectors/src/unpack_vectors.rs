@@ -1,8 +1,8 @@
-//! Stored vectors for unpack: what the proved program `unpack_vectors` reads, and what it owes.
+//! Stored vectors for unpack: what the proved program `unpack_vectors` reads, and what is expected of it.
 //!
 //! The input is a sequence of jobs, every number big-endian: width (2 bytes), height (2), depth (1),
 //! wavelet (1), intra (1, 0 or 1), codeblocks across at levels 0 to 4 (5), codeblocks down (5), the
-//! length of the lent plane (2), the number of bytes (2), then the bytes.
+//! length of the plane (2), the number of bytes (2), then the bytes.
 //!
 //! The output has for each job a line, and a line with the whole plane, refused or not, which was full
 //! of 7s before the call:
@@ -12,19 +12,20 @@
 //! 1 -2 3
 //! ```
 //!
-//! The bytes come from [`mod@crate::encode`], a seeded generator, or single bits, and every answer and
-//! plane from [`crate::unpack()`], so the vectors are the same in every run.
+//! The bytes come from [`mod@reference::encode`], a seeded generator, or single bits, and every answer and
+//! plane from [`reference::unpack()`], so the vectors are the same in every run.
 
-use crate::encode::{encode_body, EncodeOptions, SubbandOptions};
-use crate::jobs::INITIAL_ENTRY;
-use crate::params::{padded_area, subbands, Answer, Parameters};
 use crate::pieces::{
-    bits, joined, numbers, random_body, signed_numbers, sparse_body, subband_bytes,
+    self, bits, joined, numbers, random_body, signed_numbers, sparse_body, subband_bytes,
     with_codeblocks, with_random_codeblocks, EARLY_ENDS_OF_ONE, EARLY_ENDS_OF_TWO, LARGEST_NUMBER,
 };
 use crate::random::Random;
-use crate::unpack;
-use crate::vectors::Vectors;
+use crate::Vectors;
+use reference::encode::{encode_body, EncodeOptions, SubbandOptions};
+use reference::jobs::INITIAL_ENTRY;
+use reference::params::{padded_area, subbands, Answer, Parameters};
+use reference::unpack;
+use reference::unpack::quantiser_factor;
 
 /// The most entries a plane of a job may have.
 pub const MAX_ENTRIES: usize = 4096;
@@ -33,7 +34,7 @@ pub const MAX_ENTRIES: usize = 4096;
 pub const MAX_BYTES: usize = 16384;
 
 /// One call of unpack.
-pub struct Job {
+pub struct UnpackJob {
     pub parameters: Parameters,
     pub plane_length: usize,
     pub bytes: Vec<u8>,
@@ -41,19 +42,11 @@ pub struct Job {
 
 /// The stored vectors.
 pub fn unpack_vectors() -> Vectors {
-    let mut vectors = Vectors {
-        input: Vec::new(),
-        output: String::new(),
-    };
-    for job in unpack_jobs() {
-        vectors.input.extend(job_bytes(&job));
-        vectors.output.push_str(&job_text(&job));
-    }
-    vectors
+    Vectors::of(&unpack_jobs(), job_bytes, job_text)
 }
 
 /// Every job of the stored vectors, in order.
-pub fn unpack_jobs() -> Vec<Job> {
+pub fn unpack_jobs() -> Vec<UnpackJob> {
     let mut random = Random::new(16);
     let mut jobs = refused_before_reading();
     for (p, number) in headers_at() {
@@ -72,14 +65,14 @@ pub fn unpack_jobs() -> Vec<Job> {
 }
 
 /// The answer of unpack to a job, and its plane.
-pub fn run(job: &Job) -> (Answer, Vec<i32>) {
+pub fn run(job: &UnpackJob) -> (Answer, Vec<i32>) {
     let mut plane = vec![INITIAL_ENTRY; job.plane_length];
     let answer = unpack(&job.parameters, &job.bytes, &mut plane);
     (answer, plane)
 }
 
 /// A job as the program reads it.
-fn job_bytes(job: &Job) -> Vec<u8> {
+fn job_bytes(job: &UnpackJob) -> Vec<u8> {
     let p = &job.parameters;
     let mut bytes = Vec::new();
     bytes.extend(u16::to_be_bytes(p.width as u16));
@@ -93,8 +86,8 @@ fn job_bytes(job: &Job) -> Vec<u8> {
     bytes
 }
 
-/// What the program owes for a job.
-fn job_text(job: &Job) -> String {
+/// What is expected of the program for a job.
+fn job_text(job: &UnpackJob) -> String {
     let p = &job.parameters;
     let (answer, plane) = run(job);
     let numbers: Vec<String> = plane.iter().map(i32::to_string).collect();
@@ -113,13 +106,13 @@ fn job_text(job: &Job) -> String {
 }
 
 /// Parameters with one codeblock at every level; unpack doesn't look at the wavelet.
-fn parameters(width: u32, height: u32, depth: u32, intra: bool) -> Parameters {
-    crate::pieces::parameters(width, height, depth, 0, intra)
+fn plain(width: u32, height: u32, depth: u32, intra: bool) -> Parameters {
+    pieces::plain(width, height, depth, 0, intra)
 }
 
 /// A job whose plane has the length it needs.
-fn job(p: &Parameters, bytes: Vec<u8>) -> Job {
-    Job {
+fn job(p: &Parameters, bytes: Vec<u8>) -> UnpackJob {
+    UnpackJob {
         parameters: p.clone(),
         plane_length: padded_area(p),
         bytes,
@@ -127,16 +120,16 @@ fn job(p: &Parameters, bytes: Vec<u8>) -> Job {
 }
 
 /// Refusals 1, 2, 4 and 5, alone and together; a count above the depth and a wavelet don't matter.
-fn refused_before_reading() -> Vec<Job> {
+fn refused_before_reading() -> Vec<UnpackJob> {
     /// A change that puts one fault into a job.
-    type Fault = fn(&mut Job);
+    type Fault = fn(&mut UnpackJob);
     let faults: [Fault; 4] = [
         |job| job.parameters.width = 0,
         |job| job.parameters.depth = 5,
         |job| job.parameters.codeblocks_down[1] = 0,
         |job| job.plane_length += 1,
     ];
-    let base = || job(&parameters(3, 2, 1, true), vec![0xFF; 6]);
+    let base = || job(&plain(3, 2, 1, true), vec![0xFF; 6]);
     let mut jobs = Vec::new();
     for set in 0..16 {
         let mut job = base();
@@ -177,7 +170,7 @@ fn headers_at() -> Vec<(Parameters, usize)> {
     let mut list = Vec::new();
     for (depth, number) in [(0, 0), (1, 1), (1, 3), (2, 6), (3, 0), (3, 4), (4, 12)] {
         let intra = number % 2 == 0;
-        list.push((parameters(5, 3, depth, intra), number));
+        list.push((plain(5, 3, depth, intra), number));
     }
     list
 }
@@ -187,7 +180,7 @@ fn headers_at() -> Vec<(Parameters, usize)> {
 ///
 /// A header starts on a byte boundary and a number's code has an odd number of bits, so bytes can only
 /// end inside a length before the bit that may end it, and inside an index before a data bit.
-fn header_jobs(random: &mut Random, p: &Parameters, number: usize) -> Vec<Job> {
+fn header_jobs(random: &mut Random, p: &Parameters, number: usize) -> Vec<UnpackJob> {
     let behind = vec![0x80; subbands(p).len() - number];
     let mut jobs = Vec::new();
     for header in [
@@ -259,8 +252,8 @@ fn start_of_body(random: &mut Random, p: &Parameters, number: usize) -> Vec<u8> 
 
 /// Numbers of 30, 31 and 32 data bits in a subband of three values, both signs, at the first value and
 /// at the last.
-fn code_jobs() -> Vec<Job> {
-    let p = parameters(3, 1, 0, false);
+fn code_jobs() -> Vec<UnpackJob> {
+    let p = plain(3, 1, 0, false);
     let mut jobs = Vec::new();
     for magnitude in [
         (1 << 30) - 1,
@@ -295,9 +288,9 @@ fn code_jobs() -> Vec<Job> {
     jobs
 }
 
-/// The largest and the smallest value, and one beyond, at every place of a subband of two values, and
+/// The largest and the smallest value, and one beyond, at every position of a subband of two values, and
 /// in each subband of a depth of 1; and the same values through factors.
-fn extreme_jobs() -> Vec<Job> {
+fn extreme_jobs() -> Vec<UnpackJob> {
     let values = [
         i64::from(i32::MAX),
         i64::from(i32::MAX) + 1,
@@ -308,24 +301,24 @@ fn extreme_jobs() -> Vec<Job> {
     let mut jobs = Vec::new();
     for value in values {
         for intra in [false, true] {
-            let p = parameters(2, 1, 0, intra);
+            let p = plain(2, 1, 0, intra);
             for list in [[value, 0], [0, value], [-1, value], [value, 1], [value, -1]] {
                 jobs.push(job(&p, subband_bytes(0, &signed_numbers(&list))));
             }
         }
-        let p = parameters(2, 2, 1, true);
-        for place in 0..4 {
+        let p = plain(2, 2, 1, true);
+        for index in 0..4 {
             let mut plane = [3, -4, 5, -6];
-            plane[place] = value;
+            plane[index] = value;
             let options = EncodeOptions::uniform(&p, SubbandOptions::default());
             jobs.push(job(&p, encode_body(&p, &plane, &options)));
         }
     }
-    let p = parameters(1, 1, 0, false);
+    let p = plain(1, 1, 0, false);
     for index in [1, 2, 3, 4, 7, 50, 77, 102, 111, 112, 113, 114, 115] {
-        let factor = i128::from(crate::unpack::quantiser_factor(index));
-        let near = ((4i128 << 31) / factor) as i64;
-        for m in near - 1..=near + 1 {
+        let factor = i128::from(quantiser_factor(index));
+        let limit = ((4i128 << 31) / factor) as i64;
+        for m in limit - 1..=limit + 1 {
             for number in [m, -m] {
                 let data = signed_numbers(&[number]);
                 jobs.push(job(&p, subband_bytes(u64::from(index), &data)));
@@ -337,7 +330,7 @@ fn extreme_jobs() -> Vec<Job> {
 
 /// Predictions that round, that reach the extremes, and that leave 32 bits, in the top row, in the
 /// left column and inside.
-fn prediction_jobs() -> Vec<Job> {
+fn prediction_jobs() -> Vec<UnpackJob> {
     let (max, min) = (i64::from(i32::MAX), i64::from(i32::MIN));
     let rows: [[i64; 4]; 8] = [
         [max, 0, 0, 0],
@@ -362,35 +355,35 @@ fn prediction_jobs() -> Vec<Job> {
     let mut jobs = Vec::new();
     for numbers in rows {
         for (width, height) in [(4, 1), (1, 4)] {
-            let p = parameters(width, height, 0, true);
+            let p = plain(width, height, 0, true);
             jobs.push(job(&p, subband_bytes(0, &signed_numbers(&numbers))));
         }
     }
     for numbers in squares {
         for intra in [false, true] {
-            let p = parameters(2, 2, 0, intra);
+            let p = plain(2, 2, 0, intra);
             jobs.push(job(&p, subband_bytes(0, &signed_numbers(&numbers))));
         }
     }
     // A value beyond 32 bits that prediction would bring back.
     for first in [-1, 1] {
         let beyond = if first < 0 { max + 1 } else { min - 1 };
-        let p = parameters(2, 1, 0, true);
+        let p = plain(2, 1, 0, true);
         jobs.push(job(&p, subband_bytes(0, &signed_numbers(&[first, beyond]))));
     }
     // Level 0 skipped, with a depth and without.
-    jobs.push(job(&parameters(3, 3, 0, true), vec![0x80]));
-    jobs.push(job(&parameters(3, 3, 1, true), vec![0x80; 4]));
+    jobs.push(job(&plain(3, 3, 0, true), vec![0x80]));
+    jobs.push(job(&plain(3, 3, 1, true), vec![0x80; 4]));
     // Prediction goes through a flagged codeblock.
     for intra in [false, true] {
-        let p = with_codeblocks(&parameters(4, 4, 0, intra), 2, 2);
+        let p = with_codeblocks(&plain(4, 4, 0, intra), 2, 2);
         for data in ["0 0010 0011 1 1 1 1 1", "1 0 0010 1 1 1 1 1", "1 1 1 1"] {
             jobs.push(job(&p, subband_bytes(0, &bits(data))));
         }
     }
     // A refusal 9 of prediction comes after the whole subband was read.
     for list in [[max, 1, 1 << 40, 0], [max, 1, 0, max + 1]] {
-        let p = parameters(4, 1, 0, true);
+        let p = plain(4, 1, 0, true);
         jobs.push(job(&p, subband_bytes(0, &signed_numbers(&list))));
     }
     jobs
@@ -398,8 +391,8 @@ fn prediction_jobs() -> Vec<Job> {
 
 /// Data that ends before a flag, before a number, inside a number, before its sign, and that has bits
 /// or bytes more than it needs; each for one codeblock, and for one of 4 values and one of 6.
-fn early_end_jobs() -> Vec<Job> {
-    let one = parameters(5, 2, 0, false);
+fn early_end_jobs() -> Vec<UnpackJob> {
+    let one = plain(5, 2, 0, false);
     let two = with_codeblocks(&one, 2, 1);
     let more_than_needed = ["1111111111 000000 0000000000000000"];
     let mut jobs = Vec::new();
@@ -420,14 +413,14 @@ fn early_end_jobs() -> Vec<Job> {
 }
 
 /// Flags set and not, empty codeblocks, and 255 codeblocks each way over one value.
-fn codeblock_jobs(random: &mut Random) -> Vec<Job> {
+fn codeblock_jobs(random: &mut Random) -> Vec<UnpackJob> {
     let mut jobs = Vec::new();
     let sizes = [(1, 1), (2, 3), (5, 4), (8, 1)];
     let counts = [(1, 1), (2, 1), (1, 2), (3, 3), (7, 2), (2, 9)];
     for (width, height) in sizes {
         for (across, down) in counts {
             for flag_zero_codeblocks in [false, true] {
-                let p = with_codeblocks(&parameters(width, height, 1, random.flag()), across, down);
+                let p = with_codeblocks(&plain(width, height, 1, random.flag()), across, down);
                 let options = SubbandOptions {
                     skip_if_zero: false,
                     flag_zero_codeblocks,
@@ -438,7 +431,7 @@ fn codeblock_jobs(random: &mut Random) -> Vec<Job> {
         }
     }
     // Only the last of the codeblocks has the value, behind the flags of all the others.
-    let p = with_codeblocks(&parameters(1, 1, 0, true), 255, 255);
+    let p = with_codeblocks(&plain(1, 1, 0, true), 255, 255);
     let flags = |fill: u8, last: &[u8]| joined(vec![fill; 8128], last);
     for data in [
         vec![0xFF],
@@ -449,7 +442,7 @@ fn codeblock_jobs(random: &mut Random) -> Vec<Job> {
         jobs.push(job(&p, subband_bytes(10, &data)));
     }
     for (across, down) in [(255, 1), (1, 255)] {
-        let p = with_codeblocks(&parameters(1, 1, 0, false), across, down);
+        let p = with_codeblocks(&plain(1, 1, 0, false), across, down);
         for last in ["000000 0 0", "000000 0 1", "000000 1 0"] {
             let data = joined(vec![0; 31], &bits(last));
             jobs.push(job(
@@ -457,7 +450,7 @@ fn codeblock_jobs(random: &mut Random) -> Vec<Job> {
                 subband_bytes(10, &joined(data, &bits("0100 1111"))),
             ));
         }
-        let p = with_codeblocks(&parameters(3, 2, 1, true), across, down);
+        let p = with_codeblocks(&plain(3, 2, 1, true), across, down);
         let body = sparse_body(random, &p, SubbandOptions::default());
         jobs.push(job(&p, body));
     }
@@ -465,8 +458,8 @@ fn codeblock_jobs(random: &mut Random) -> Vec<Job> {
 }
 
 /// Every quantiser index, with the numbers 0, 1, -1, 2, -3 and 100.
-fn index_jobs() -> Vec<Job> {
-    let p = parameters(6, 1, 0, false);
+fn index_jobs() -> Vec<UnpackJob> {
+    let p = plain(6, 1, 0, false);
     (0..=116)
         .map(|index| {
             let most = if index < 96 { 100 } else { 1 };
@@ -478,16 +471,16 @@ fn index_jobs() -> Vec<Job> {
 
 /// Every depth at several sizes, intra and not, with indices, codeblocks and layouts at random, and
 /// with bytes behind the component.
-fn random_jobs(random: &mut Random) -> Vec<Job> {
+fn random_jobs(random: &mut Random) -> Vec<UnpackJob> {
     let sizes = [(1, 1), (2, 1), (1, 3), (3, 5), (7, 6), (16, 8), (17, 9)];
     let mut jobs = Vec::new();
     for depth in 0..=4 {
         for (width, height) in sizes {
             for intra in [false, true] {
-                let p = with_random_codeblocks(random, &parameters(width, height, depth, intra));
-                let spread = 1 << random.range(0, 12);
+                let p = with_random_codeblocks(random, &plain(width, height, depth, intra));
+                let bound = 1 << random.range(0, 12);
                 let behind = random.range(0, 3) as usize;
-                let body = random_body(random, &p, spread);
+                let body = random_body(random, &p, bound);
                 jobs.push(job(&p, joined(body, &vec![0x5A; behind])));
             }
         }
@@ -495,9 +488,9 @@ fn random_jobs(random: &mut Random) -> Vec<Job> {
     jobs
 }
 
-/// A component of depth 2 whose bytes end at every place.
-fn cut_jobs(random: &mut Random) -> Vec<Job> {
-    let p = with_codeblocks(&parameters(3, 4, 2, true), 2, 1);
+/// A component of depth 2 whose bytes end at every byte.
+fn cut_jobs(random: &mut Random) -> Vec<UnpackJob> {
+    let p = with_codeblocks(&plain(3, 4, 2, true), 2, 1);
     let body = random_body(random, &p, 5);
     (0..=body.len())
         .map(|end| job(&p, body[..end].to_vec()))
@@ -505,14 +498,10 @@ fn cut_jobs(random: &mut Random) -> Vec<Job> {
 }
 
 /// Components in order with one bit turned over, and bytes at random.
-fn noise_jobs(random: &mut Random) -> Vec<Job> {
+fn noise_jobs(random: &mut Random) -> Vec<UnpackJob> {
     let mut jobs = Vec::new();
     for k in 0..60 {
-        let p = with_codeblocks(
-            &parameters(4, 3, k % 5, random.flag()),
-            1 + k % 3,
-            1 + k % 2,
-        );
+        let p = with_codeblocks(&plain(4, 3, k % 5, random.flag()), 1 + k % 3, 1 + k % 2);
         let mut body = random_body(random, &p, 1 << (k % 8));
         let bit = random.range(0, 8 * body.len() as i64 - 1) as usize;
         body[bit / 8] ^= 1 << (bit % 8);

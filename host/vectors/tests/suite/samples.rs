@@ -1,10 +1,19 @@
 //! The recordings in `samples`.
 
 use crate::common::*;
-use crate::worked_case;
 use reference::read_recording;
 use reference::recording::parse;
-use reference::samples::{pad_edge_parameters, pad_edge_picture};
+use vectors::runs::run_decode;
+use vectors::samples::{pad_edge_parameters, pad_edge_picture};
+
+/// The bytes that document 01 gives for the whole case.
+#[rustfmt::skip]
+const WHOLE_CASE: [u8; 35] = [
+    0x01, 0x00, 0x02, 0x00, 0x02, 0x01, 0x03, 0x01, 0x00,
+    0, 0, 0, 0, 0, 0, 0, 0, 0, 0,
+    0x00, 0x00, 0x00, 0x1B, 0x00, 0x00, 0x00, 0x08,
+    0x30, 0x16, 0x30, 0x18, 0x30, 0x70, 0x30, 0x20,
+];
 
 #[test]
 fn the_command_writes_the_stored_files() {
@@ -24,8 +33,7 @@ fn sample(name: &str) -> Stored {
 #[test]
 fn the_whole_case() {
     let sample = sample("whole-case");
-    assert_eq!(sample.file, worked_case::file());
-    assert_eq!(sample.file.len(), 35);
+    assert_eq!(sample.file, WHOLE_CASE);
     assert_eq!(sample.text, "entry 0: 2 x 2\n9 12\n7 11\n");
 }
 

@@ -1,11 +1,11 @@
 //! The recordings in `samples/`, for a first look at the program.
 
-use crate::encode::{encode_body, EncodeOptions, SubbandOptions};
-use crate::params::{subbands, Parameters};
-use crate::pieces::{parameters, with_codeblocks};
+use crate::pieces::{plain, with_codeblocks};
 use crate::random::Random;
-use crate::recording::Entry;
-use crate::recording_vectors::{entry, picture_entry, Recording};
+use crate::recording_vectors::{entry_of, picture_entry, Recording};
+use reference::encode::{encode_body, EncodeOptions, SubbandOptions};
+use reference::params::{subbands, Parameters};
+use reference::recording::Entry;
 
 /// The samples: document 01's whole case, and the edge of a pad.
 pub fn samples() -> Vec<Recording> {
@@ -17,11 +17,11 @@ pub fn samples() -> Vec<Recording> {
 
 /// The entry of the whole case, every count the default (document 01, "A recording").
 pub fn whole_case() -> Entry {
-    let p = parameters(2, 2, 1, 3, true);
+    let p = plain(2, 2, 1, 3, true);
     let options = EncodeOptions::uniform(&p, SubbandOptions::default());
     // The coefficients are 10 4 / -2 1, and at the corner prediction adds 0.
     let body = encode_body(&p, &[10, 4, -2, 1], &options);
-    entry(&with_codeblocks(&p, 0, 0), body)
+    entry_of(&with_codeblocks(&p, 0, 0), body)
 }
 
 /// The parameters of the picture of a pad.
@@ -29,7 +29,7 @@ pub fn pad_edge_parameters() -> Parameters {
     Parameters {
         codeblocks_across: [1, 2, 4, 8, 1],
         codeblocks_down: [1, 1, 3, 6, 1],
-        ..parameters(64, 48, 3, 1, true)
+        ..plain(64, 48, 3, 1, true)
     }
 }
 

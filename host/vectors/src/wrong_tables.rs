@@ -2,12 +2,12 @@
 //!
 //! Most are a recording of three accepted entries with a few bytes changed.
 
-use crate::encode::{encode_body, EncodeOptions, SubbandOptions};
-use crate::params::padded_area;
-use crate::pieces::{joined, parameters, signed_numbers, subband_bytes, with_codeblocks};
-use crate::recording::{write_recording, Entry, ENTRY_BYTES, MAX_ENTRIES, MAX_FILE};
-use crate::recording_vectors::{entry, Recording};
+use crate::pieces::{joined, plain, signed_numbers, subband_bytes, with_codeblocks};
+use crate::recording_vectors::{entry_of, Recording};
 use crate::samples::whole_case;
+use reference::encode::{encode_body, EncodeOptions, SubbandOptions};
+use reference::params::padded_area;
+use reference::recording::{write_recording, Entry, ENTRY_BYTES, MAX_ENTRIES, MAX_FILE};
 
 /// The byte of intra in an entry.
 const INTRA: usize = 6;
@@ -45,12 +45,12 @@ fn named(name: &str, file: Vec<u8>) -> Recording {
 fn entries() -> [Entry; 3] {
     [
         whole_case(),
-        entry(
-            &parameters(3, 1, 0, 2, true),
+        entry_of(
+            &plain(3, 1, 0, 2, true),
             subband_bytes(0, &signed_numbers(&[4, -1, 2])),
         ),
-        entry(
-            &parameters(1, 1, 0, 6, false),
+        entry_of(
+            &plain(1, 1, 0, 6, false),
             subband_bytes(5, &signed_numbers(&[-3])),
         ),
     ]
@@ -67,23 +67,23 @@ fn field(entry: usize, at: usize) -> usize {
 }
 
 /// The recording of the three with one byte put in place of another.
-fn with_byte(place: usize, byte: u8) -> Vec<u8> {
+fn with_byte(index: usize, byte: u8) -> Vec<u8> {
     let mut file = three();
-    assert_ne!(file[place], byte);
-    file[place] = byte;
+    assert_ne!(file[index], byte);
+    file[index] = byte;
     file
 }
 
 /// A number of four bytes.
-fn four(file: &[u8], place: usize) -> u32 {
-    u32::from_be_bytes(file[place..place + 4].try_into().expect("four bytes"))
+fn four(file: &[u8], start: usize) -> u32 {
+    u32::from_be_bytes(file[start..start + 4].try_into().expect("four bytes"))
 }
 
 /// The file with numbers added to numbers of four bytes, which may wrap.
 fn with_added(mut file: Vec<u8>, changes: &[(usize, i64)]) -> Vec<u8> {
-    for &(place, add) in changes {
-        let number = i64::from(four(&file, place)) + add;
-        file[place..place + 4].copy_from_slice(&(number as u32).to_be_bytes());
+    for &(start, add) in changes {
+        let number = i64::from(four(&file, start)) + add;
+        file[start..start + 4].copy_from_slice(&(number as u32).to_be_bytes());
     }
     file
 }
@@ -91,7 +91,7 @@ fn with_added(mut file: Vec<u8>, changes: &[(usize, i64)]) -> Vec<u8> {
 /// The number of entries.
 fn counts() -> Vec<Recording> {
     let seventeen = vec![entries()[2].clone(); MAX_ENTRIES + 1];
-    let empty = entry(&parameters(2, 2, 1, 3, true), vec![]);
+    let empty = entry_of(&plain(2, 2, 1, 3, true), vec![]);
     vec![
         named("table-empty-file", vec![]),
         named("table-count-0", with_byte(0, 0)),
@@ -106,7 +106,7 @@ fn counts() -> Vec<Recording> {
         Recording::new("table-right-of-27-bytes", std::slice::from_ref(&empty)),
         Recording::new(
             "table-right-of-28-bytes",
-            &[entry(&parameters(1, 1, 0, 0, true), vec![0x80])],
+            &[entry_of(&plain(1, 1, 0, 0, true), vec![0x80])],
         ),
         Recording::new("table-right-16-empty-bodies", &vec![empty.clone(); 16]),
         Recording::new(
@@ -309,13 +309,13 @@ fn files_of_the_largest_size() -> Vec<Recording> {
 /// A recording of so many bytes, its table right: the last subband's stated length ends the file, and
 /// its values use a few of those bytes.
 fn file_of(bytes: usize) -> Vec<u8> {
-    let p = with_codeblocks(&parameters(6, 5, 1, 1, true), 2, 1);
+    let p = with_codeblocks(&plain(6, 5, 1, 1, true), 2, 1);
     let plane: Vec<i64> = (0..padded_area(&p) as i64).map(|k| k % 7 - 3).collect();
     let mut options = EncodeOptions::uniform(&p, SubbandOptions::default());
     let mut slack = 0;
     loop {
         options.subbands[3].slack = (0..slack).map(|k| (k % 251) as u8).collect();
-        let file = write_recording(&[entry(&p, encode_body(&p, &plane, &options))]);
+        let file = write_recording(&[entry_of(&p, encode_body(&p, &plane, &options))]);
         if file.len() == bytes {
             return file;
         }

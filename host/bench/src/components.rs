@@ -2,13 +2,12 @@
 
 use crate::picture;
 use ffmpeg::stream::{BitDepth, Stream, COMPONENTS};
-use reference::encode::{
-    encode_body, picture_coefficients, quantise_plane, EncodeOptions, Rounding, SubbandOptions,
-};
+use reference::encode::{encode_body, quantise_plane, EncodeOptions, Rounding, SubbandOptions};
 use reference::params::{sample_area, subbands};
-use reference::pieces::{parameters, with_codeblocks};
 use reference::Parameters;
 use std::fmt::{self, Display, Formatter};
+use vectors::pictures::picture_coefficients;
+use vectors::pieces::{plain, with_codeblocks};
 
 /// The seed of the picture.
 const SEED: u64 = 1;
@@ -46,7 +45,7 @@ pub const FULL_SIZE: (u32, u32) = (1920, 1080);
 pub const WAVELETS: [u32; 4] = [0, 1, 5, 6];
 
 /// The rates that each is measured at.
-pub const RATES: [Rate; 2] = [rate(1.1, 14), rate(3.7, 4)];
+pub const RATES: [Rate; 2] = [about(1.1, 14), about(3.7, 4)];
 
 /// The wavelet of the tables of sizes and rates.
 pub const ONE_WAVELET: u32 = 1;
@@ -56,7 +55,7 @@ pub const OTHER_SIZES: [(u32, u32); 5] =
     [(64, 48), (240, 136), (480, 270), (960, 540), (4096, 2160)];
 
 /// The other rates that are measured at the full size.
-pub const OTHER_RATES: [Rate; 3] = [rate(0.5, 22), rate(2.0, 10), rate(6.0, 0)];
+pub const OTHER_RATES: [Rate; 3] = [about(0.5, 22), about(2.0, 10), about(6.0, 0)];
 
 /// The codeblocks of the table of many codeblocks, at the full size; the first are one.
 pub const MANY_CODEBLOCKS: [Codeblocks; 7] = [
@@ -70,7 +69,7 @@ pub const MANY_CODEBLOCKS: [Codeblocks; 7] = [
 ];
 
 /// The rate that they are measured at.
-pub const MANY_CODEBLOCKS_RATE: Rate = rate(1.8, 10);
+pub const MANY_CODEBLOCKS_RATE: Rate = about(1.8, 10);
 
 /// The size whose instructions are counted.
 pub const COUNTED_SIZE: (u32, u32) = (480, 270);
@@ -82,8 +81,8 @@ pub const COUNTED_CODEBLOCKS: [Codeblocks; 3] = [
     Codeblocks::written_out(64, 64),
 ];
 
-/// A rate, and the index to try first.
-const fn rate(bits_a_sample: f64, first_index: u32) -> Rate {
+/// A rate to come near to, and the index to try first.
+const fn about(bits_a_sample: f64, first_index: u32) -> Rate {
     Rate {
         bits_a_sample,
         first_index,
@@ -145,7 +144,7 @@ impl Plan {
 }
 
 /// An encoded component.
-pub struct Material {
+pub struct Component {
     pub parameters: Parameters,
     /// The codeblocks of its subbands.
     pub codeblocks: Codeblocks,
@@ -156,10 +155,10 @@ pub struct Material {
     pub body: Vec<u8>,
 }
 
-impl Material {
+impl Component {
     /// The components of a plan, one for each rate. Codeblocks do not change the index.
-    pub fn of(plan: Plan, rates: &[Rate]) -> Vec<Material> {
-        let p = parameters(plan.width, plan.height, plan.depth, plan.wavelet, true);
+    pub fn of(plan: Plan, rates: &[Rate]) -> Vec<Component> {
+        let p = plain(plan.width, plan.height, plan.depth, plan.wavelet, true);
         let samples = picture::samples(plan.width, plan.height, SEED);
         let coefficients = picture_coefficients(&p, &samples);
         let encode = |&rate: &Rate| {
@@ -184,13 +183,13 @@ impl Material {
         8.0 * self.body.len() as f64 / self.samples() as f64
     }
 
-    /// A sequence header and a picture of 8 bits that has this component thrice, and where the
+    /// A sequence header and a picture of 8 bits that has this component three times, and where the
     /// picture's number stands.
     pub fn packet(&self) -> (Vec<u8>, usize) {
         let p = &self.parameters;
         let mut stream = Stream::new(p.width, p.height, BitDepth::Eight);
-        let number_place = stream.add_picture(0, p, [&self.body; COMPONENTS]);
-        (stream.bytes().to_vec(), number_place)
+        let number_offset = stream.add_picture(0, p, [&self.body; COMPONENTS]);
+        (stream.bytes().to_vec(), number_offset)
     }
 }
 
@@ -198,8 +197,8 @@ impl Material {
 /// or the one before it.
 fn nearest_index(p: &Parameters, coefficients: &[i32], rate: Rate) -> u32 {
     let miss = |index| {
-        let material = encode_with(p, coefficients, Codeblocks::ONE, rate, index);
-        material.bits_a_sample() - rate.bits_a_sample
+        let component = encode_with(p, coefficients, Codeblocks::ONE, rate, index);
+        component.bits_a_sample() - rate.bits_a_sample
     };
     let mut index = rate.first_index;
     let mut above = miss(index);
@@ -225,7 +224,7 @@ fn encode_with(
     codeblocks: Codeblocks,
     rate: Rate,
     index: u32,
-) -> Material {
+) -> Component {
     let p = with_codeblocks(p, codeblocks.across, codeblocks.down);
     let indices = vec![index; subbands(&p).len()];
     let quantised = quantise_plane(&p, coefficients, &indices, Rounding::Floor);
@@ -235,7 +234,7 @@ fn encode_with(
         ..SubbandOptions::default()
     };
     let body = encode_body(&p, &quantised, &EncodeOptions::uniform(&p, options));
-    Material {
+    Component {
         parameters: p,
         codeblocks,
         rate,

@@ -1,8 +1,9 @@
 //! Stored recordings whose pictures another decoder gave too.
 
-use crate::common::{answer, run_unpack, stored_recordings};
+use crate::common::{answer, stored_recordings};
 use reference::read_recording;
 use reference::recording::parse;
+use vectors::runs::run_unpack;
 
 #[test]
 fn every_base_recording_decodes_to_its_text() {

@@ -1,9 +1,9 @@
 //! Pieces that stored vectors, recordings and tests are put together from.
 
-use crate::codes::BitWriter;
-use crate::encode::{encode_body, EncodeOptions, SubbandOptions};
-use crate::params::{padded_area, subbands, Parameters};
 use crate::random::Random;
+use reference::codes::BitWriter;
+use reference::encode::{encode_body, EncodeOptions, SubbandOptions};
+use reference::params::{padded_area, subbands, Parameters};
 
 /// The largest number a code can state: 31 data bits, all of them 1.
 pub const LARGEST_NUMBER: u64 = (1 << 32) - 2;
@@ -37,7 +37,7 @@ pub const EARLY_ENDS_OF_TWO: [&str; 9] = [
 ];
 
 /// Parameters with one codeblock at every level.
-pub fn parameters(width: u32, height: u32, depth: u32, wavelet: u32, intra: bool) -> Parameters {
+pub fn plain(width: u32, height: u32, depth: u32, wavelet: u32, intra: bool) -> Parameters {
     Parameters {
         width,
         height,
@@ -106,9 +106,9 @@ pub fn joined(mut first: Vec<u8>, then: &[u8]) -> Vec<u8> {
 }
 
 /// A body in order, of numbers up to a magnitude, half of them 0.
-pub fn random_body(random: &mut Random, p: &Parameters, spread: i64) -> Vec<u8> {
+pub fn random_body(random: &mut Random, p: &Parameters, bound: i64) -> Vec<u8> {
     let plane: Vec<i64> = (0..padded_area(p))
-        .map(|_| i64::from(random.flag()) * random.range(-spread, spread))
+        .map(|_| i64::from(random.flag()) * random.range(-bound, bound))
         .collect();
     let options = EncodeOptions {
         subbands: subbands(p).iter().map(|_| random_options(random)).collect(),

@@ -2,8 +2,10 @@
 
 use crate::common::{answer, assert_stored, assert_writes_vectors, program_folder};
 use reference::jobs::INITIAL_ENTRY;
-use reference::unpack_vectors::{run, unpack_jobs, unpack_vectors, Job, MAX_BYTES, MAX_ENTRIES};
 use reference::Answer;
+use vectors::unpack_vectors::{
+    run, unpack_jobs, unpack_vectors, UnpackJob, MAX_BYTES, MAX_ENTRIES,
+};
 
 #[test]
 fn stored_vectors_are_those_of_the_reference() {
@@ -19,7 +21,7 @@ fn the_command_writes_the_vectors() {
 }
 
 /// Every job, its answer and its plane.
-fn results() -> Vec<(Job, Answer, Vec<i32>)> {
+fn results() -> Vec<(UnpackJob, Answer, Vec<i32>)> {
     unpack_jobs()
         .into_iter()
         .map(|job| {
@@ -32,7 +34,7 @@ fn results() -> Vec<(Job, Answer, Vec<i32>)> {
 #[test]
 fn every_kind_of_job_is_there() {
     let results = results();
-    let count = |kind: &dyn Fn(&Job, Answer) -> bool| {
+    let count = |kind: &dyn Fn(&UnpackJob, Answer) -> bool| {
         results
             .iter()
             .filter(|(job, given, _)| kind(job, *given))
@@ -65,24 +67,24 @@ fn every_kind_of_job_is_there() {
             assert!(accepted >= 7, "depth {depth} intra {intra}");
         }
     }
-    let no_bytes = |job: &Job, given| job.bytes.is_empty() && given == answer(6, 0);
+    let no_bytes = |job: &UnpackJob, given| job.bytes.is_empty() && given == answer(6, 0);
     assert!(count(&no_bytes) > 0);
     let bytes_behind =
-        |job: &Job, given: Answer| given.status == 0 && given.place < job.bytes.len() as u64;
+        |job: &UnpackJob, given: Answer| given.status == 0 && given.place < job.bytes.len() as u64;
     assert!(count(&bytes_behind) > 10);
-    let many_codeblocks = |job: &Job, given: Answer| {
+    let many_codeblocks = |job: &UnpackJob, given: Answer| {
         job.parameters.codeblocks_across[0] == 255
             && job.parameters.codeblocks_down[0] == 255
             && given.status == 0
     };
     assert_eq!(count(&many_codeblocks), 4);
     // No job is above what the program has room for.
-    let above = |job: &Job, _| job.plane_length > MAX_ENTRIES || job.bytes.len() > MAX_BYTES;
+    let above = |job: &UnpackJob, _| job.plane_length > MAX_ENTRIES || job.bytes.len() > MAX_BYTES;
     assert_eq!(count(&above), 0);
 }
 
 #[test]
-fn planes_show_what_is_owed() {
+fn planes_are_as_document_01_says() {
     let results = results();
     for (_, given, plane) in &results {
         match given.status {

@@ -1,13 +1,13 @@
 //! The decoders on one component: that they agree, and how fast they are.
 
+use crate::components::{Codeblocks, Component};
 use crate::libavcodec::Libavcodec;
-use crate::material::{Codeblocks, Material};
-use crate::race::{race, Contestant};
-use ffmpeg::proved::proved_parameters;
+use crate::timing::{take_turns, Timed};
+use compare::proved_parameters;
 use ffmpeg::stream::{BitDepth, COMPONENTS};
 use reference::params::padded_area;
 
-/// How many turns the contestants have on a component before the next one is measured.
+/// How many turns each decoder has on a component before the next one is measured.
 #[derive(Clone, Copy, Debug)]
 pub struct Effort {
     pub rounds: usize,
@@ -23,7 +23,7 @@ pub struct Jobs {
     pub decode: f64,
 }
 
-/// Megasamples a second of everyone.
+/// Megasamples a second of every decoder.
 #[derive(Clone, Copy, Debug)]
 pub struct Speeds {
     pub proved: Jobs,
@@ -66,12 +66,12 @@ pub struct Planes {
 
 impl Planes {
     /// Planes of zeros for a component.
-    pub fn new(material: &Material) -> Planes {
-        let area = padded_area(&material.parameters);
+    pub fn new(component: &Component) -> Planes {
+        let area = padded_area(&component.parameters);
         Planes {
             coefficients: vec![0; area],
             work: vec![0; area],
-            samples: vec![0; material.samples()],
+            samples: vec![0; component.samples()],
         }
     }
 }
@@ -84,18 +84,18 @@ pub struct PicturePlanes {
 
 impl PicturePlanes {
     /// Planes of zeros for a picture that has a component so many times.
-    pub fn new(material: &Material, components: usize) -> PicturePlanes {
-        let planes = Planes::new(material);
-        let samples = vec![planes.samples.clone(); components];
+    pub fn new(component: &Component, count: usize) -> PicturePlanes {
+        let planes = Planes::new(component);
+        let samples = vec![planes.samples.clone(); count];
         PicturePlanes { planes, samples }
     }
 
     /// Runs a job on all components, one after the other; they were checked.
-    pub fn run(&mut self, material: &Material, job: Job) {
+    pub fn run(&mut self, component: &Component, job: Job) {
         for own in &mut self.samples {
             std::mem::swap(&mut self.planes.samples, own);
             assert_eq!(
-                job(material, &mut self.planes),
+                job(component, &mut self.planes),
                 0,
                 "a component that was checked"
             );
@@ -104,7 +104,7 @@ impl PicturePlanes {
 }
 
 /// A job on a component; answers its status.
-pub type Job = fn(&Material, &mut Planes) -> u32;
+pub type Job = fn(&Component, &mut Planes) -> u32;
 
 /// Unpack, synthesise and decode of the proved library.
 pub const PROVED: [Job; 3] = [
@@ -163,11 +163,11 @@ fn status<T>(result: Result<T, kafsillun::Error>) -> u32 {
 }
 
 /// libavcodec with SIMD code and in plain C, if it is installed.
-fn open_libavcodec(material: &Material) -> Vec<Libavcodec> {
-    let (packet, number_place) = material.packet();
+fn open_libavcodec(component: &Component) -> Vec<Libavcodec> {
+    let (packet, number_offset) = component.packet();
     [true, false]
         .into_iter()
-        .filter_map(|simd| Libavcodec::new(&packet, number_place, simd))
+        .filter_map(|simd| Libavcodec::new(&packet, number_offset, simd))
         .collect()
 }
 
@@ -177,70 +177,66 @@ pub fn libavcodec_agrees(wavelet: u32) -> bool {
 }
 
 /// Whether jobs, one after the other, are accepted and leave these planes.
-fn leave(jobs: &[Job], material: &Material, expected: &Planes) -> bool {
-    let mut planes = Planes::new(material);
-    jobs.iter().all(|job| job(material, &mut planes) == 0) && planes == *expected
+fn leave(jobs: &[Job], component: &Component, expected: &Planes) -> bool {
+    let mut planes = Planes::new(component);
+    jobs.iter().all(|job| job(component, &mut planes) == 0) && planes == *expected
 }
 
-/// Holds all jobs of the proved library to the reference's decode, libavcodec's samples to its samples
-/// and, if asked to, the reference's other jobs to its planes; or says who differs.
-pub fn check(material: &Material, other_reference_jobs: bool) -> Result<(), String> {
+/// Checks that the jobs of the proved library leave the same planes, the reference's decode too and, if
+/// asked to, its other jobs, and that libavcodec gives the same samples; or says who differs.
+pub fn check(component: &Component, other_reference_jobs: bool) -> Result<(), String> {
     let [unpack, synthesise, decode] = PROVED;
-    let mut planes = Planes::new(material);
-    if decode(material, &mut planes) != 0 || !leave(&[unpack, synthesise], material, &planes) {
+    let mut planes = Planes::new(component);
+    if decode(component, &mut planes) != 0 || !leave(&[unpack, synthesise], component, &planes) {
         return Err("the library's jobs differ, or one refuses".to_string());
     }
     let [unpack, synthesise, decode] = REFERENCE;
-    if !leave(&[decode], material, &planes)
-        || other_reference_jobs && !leave(&[unpack, synthesise], material, &planes)
+    if !leave(&[decode], component, &planes)
+        || other_reference_jobs && !leave(&[unpack, synthesise], component, &planes)
     {
         return Err("the reference differs, or a job refuses".to_string());
     }
-    check_libavcodec(material, &planes.samples)
+    check_libavcodec(component, &planes.samples)
 }
 
-/// Holds libavcodec to these samples. Where there are many codeblocks it takes no part: it refuses more of
-/// them than a level has columns or rows.
-fn check_libavcodec(material: &Material, samples: &[i32]) -> Result<(), String> {
-    let p = &material.parameters;
-    if !libavcodec_agrees(p.wavelet) || material.codeblocks != Codeblocks::ONE {
+/// Checks that libavcodec gives these samples. Where there are many codeblocks it takes no part: it
+/// refuses more of them than a level has columns or rows.
+fn check_libavcodec(component: &Component, samples: &[i32]) -> Result<(), String> {
+    let p = &component.parameters;
+    if !libavcodec_agrees(p.wavelet) || component.codeblocks != Codeblocks::ONE {
         return Ok(());
     }
     let shown = |sample: &i32| sample + BitDepth::Eight.offset();
     let samples: Vec<i32> = samples.iter().map(shown).collect();
-    for mut libavcodec in open_libavcodec(material) {
+    for mut libavcodec in open_libavcodec(component) {
         libavcodec.decode();
-        for component in 0..COMPONENTS {
-            if libavcodec.samples(component, p.width, p.height) != samples {
-                return Err(format!("libavcodec differs in component {component}"));
+        for k in 0..COMPONENTS {
+            if libavcodec.samples(k, p.width, p.height) != samples {
+                return Err(format!("libavcodec differs in component {k}"));
             }
         }
     }
     Ok(())
 }
 
-/// How fast everyone is on a component that was checked. Planes are allocated once and not cleared
-/// between turns. The library and libavcodec decode it thrice in a turn, as the components of a picture.
-pub fn measure(material: &Material, effort: Effort) -> Speeds {
-    let mut contestants = Vec::new();
-    contestants.extend(job_contestants(material, PROVED, COMPONENTS, effort.rounds));
+/// How fast every decoder is on a component that was checked. Planes are allocated once and not cleared
+/// between turns. The library and libavcodec decode it three times in a turn, as the components of a
+/// picture.
+pub fn measure(component: &Component, effort: Effort) -> Speeds {
+    let mut timed = Vec::new();
+    timed.extend(timed_jobs(component, PROVED, COMPONENTS, effort.rounds));
     if effort.reference_rounds > 0 {
-        contestants.extend(job_contestants(
-            material,
-            REFERENCE,
-            1,
-            effort.reference_rounds,
-        ));
+        timed.extend(timed_jobs(component, REFERENCE, 1, effort.reference_rounds));
     }
-    for mut libavcodec in open_libavcodec(material) {
-        contestants.push(Contestant::new(
-            COMPONENTS * material.samples(),
+    for mut libavcodec in open_libavcodec(component) {
+        timed.push(Timed::new(
+            COMPONENTS * component.samples(),
             effort.rounds,
             move || libavcodec.decode(),
         ));
     }
-    race(&mut contestants);
-    let mut speeds = contestants.iter().map(Contestant::megasamples);
+    take_turns(&mut timed);
+    let mut speeds = timed.iter().map(Timed::megasamples);
     let mut jobs = || Jobs {
         unpack: speeds.next().expect("a job"),
         synthesise: speeds.next().expect("a job"),
@@ -258,18 +254,18 @@ pub fn measure(material: &Material, effort: Effort) -> Speeds {
 
 /// Each of a decoder's jobs with planes of its own, the coefficients unpacked. A turn is a picture of so
 /// many components.
-fn job_contestants(
-    material: &Material,
+fn timed_jobs(
+    component: &Component,
     jobs: [Job; 3],
-    components: usize,
+    count: usize,
     rounds: usize,
-) -> [Contestant<'_>; 3] {
+) -> [Timed<'_>; 3] {
     let [unpack, ..] = jobs;
     jobs.map(|job| {
-        let mut picture = PicturePlanes::new(material, components);
-        unpack(material, &mut picture.planes);
-        Contestant::new(components * material.samples(), rounds, move || {
-            picture.run(material, job)
+        let mut picture = PicturePlanes::new(component, count);
+        unpack(component, &mut picture.planes);
+        Timed::new(count * component.samples(), rounds, move || {
+            picture.run(component, job)
         })
     })
 }

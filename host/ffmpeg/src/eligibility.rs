@@ -1,15 +1,17 @@
-//! Where FFmpeg's samples mean something, and which samples it owes there.
+//! Which components FFmpeg's samples can confirm, and which samples are expected of it there.
 //!
 //! FFmpeg works in 16 bits where document 01 has 32, and has slips of its own. A component that meets
 //! one of them is set aside, with the reason.
 
 use crate::proved::Decoded;
 use crate::stream::BitDepth;
-use reference::params::{padded_height, padded_width, subband, Orientation, Parameters};
-use reference::transform::{interleave, Grid, Step, FILTERS};
+use reference::params::{padded_width, subband_at, Orientation, Parameters};
+use reference::transform::{Grid, Step, FILTERS};
 use reference::unpack::prediction;
+use std::slice;
+use vectors::levels::{build_picture, crop, halve};
 
-/// Why FFmpeg cannot vouch for a component.
+/// Why a component is not eligible: FFmpeg's samples of it confirm nothing.
 #[derive(Clone, Copy, Debug, PartialEq, Eq)]
 pub enum Aside {
     /// The proved library refuses it, so there are no samples.
@@ -66,8 +68,8 @@ impl Aside {
     }
 }
 
-/// The samples that FFmpeg owes for a component, before the offset and clipping.
-pub struct Owed {
+/// The samples that are expected of FFmpeg for a component, before the offset and clipping.
+pub struct Expected {
     pub samples: Vec<i32>,
     /// Whether they are the proved library's; otherwise its coefficients were synthesised with
     /// FFmpeg's halving of wavelet 6.
@@ -81,28 +83,33 @@ pub struct Setting {
     pub simd: bool,
 }
 
-/// What FFmpeg owes for a component that the proved library decoded, or why it cannot vouch for it.
-pub fn owed(p: &Parameters, setting: Setting, decoded: Decoded) -> Result<Owed, Aside> {
+/// What is expected of FFmpeg for a component that the proved library decoded, or why it is not eligible.
+pub fn expected_samples(
+    p: &Parameters,
+    setting: Setting,
+    decoded: Decoded,
+) -> Result<Expected, Aside> {
     check_parameters(p, setting)?;
     check_dequantising(p, &decoded.coefficients)?;
     check_prediction(p, &decoded.coefficients)?;
     let proved = p.wavelet != 6;
-    let halve = if proved {
+    let half = if proved {
         reference::transform::shift_down
     } else {
         |v: i128| v.div_euclid(2)
     };
     let limits = Limits::of(p, setting);
-    let picture = synthesise_within(p, &decoded.coefficients, &limits, halve)?;
+    let picture = synthesise_within(p, &decoded.coefficients, &limits, half)?;
     let samples = if proved {
         decoded.samples
     } else {
-        cropped(p, &picture)
+        let fitting = |number| i32::try_from(number).expect("within the limits");
+        crop(p, &picture).into_iter().map(fitting).collect()
     };
     if samples.iter().all(|&v| is_clipped(v, setting.bit_depth)) {
         return Err(Aside::Clipped);
     }
-    Ok(Owed { samples, proved })
+    Ok(Expected { samples, proved })
 }
 
 /// Whether FFmpeg clips a sample.
@@ -151,7 +158,7 @@ fn predictions<'a>(
     coefficients: &'a [i32],
 ) -> impl Iterator<Item = (usize, usize, i64)> + 'a {
     let row_width = padded_width(p);
-    let band = subband(p, 0, Orientation::LL);
+    let band = subband_at(p, 0, Orientation::LL);
     (0..band.height).flat_map(move |y| {
         (0..band.width).map(move |x| {
             let value = |x, y| i64::from(coefficients[y * row_width + x]);
@@ -178,15 +185,15 @@ fn check_dequantising(p: &Parameters, coefficients: &[i32]) -> Result<(), Aside>
 
 /// Whether FFmpeg's division by 3 is exact for every sum of neighbours.
 fn check_prediction(p: &Parameters, coefficients: &[i32]) -> Result<(), Aside> {
-    let thrice = |(x, y, added): (usize, usize, i64)| x > 0 && y > 0 && added.abs() > 32_766 / 3;
-    if p.intra && predictions(p, coefficients).any(thrice) {
+    let inexact = |(x, y, added): (usize, usize, i64)| x > 0 && y > 0 && added.abs() > 32_766 / 3;
+    if p.intra && predictions(p, coefficients).any(inexact) {
         Err(Aside::Prediction)
     } else {
         Ok(())
     }
 }
 
-/// The largest magnitudes that FFmpeg's arithmetic holds.
+/// The largest magnitudes that FFmpeg's arithmetic has room for.
 struct Limits {
     numbers: i128,
     sums: i128,
@@ -218,45 +225,24 @@ fn synthesise_within(
     p: &Parameters,
     coefficients: &[i32],
     limits: &Limits,
-    halve: fn(i128) -> i128,
+    half: fn(i128) -> i128,
 ) -> Result<Grid, Aside> {
-    let plane = Grid {
-        width: padded_width(p),
-        height: padded_height(p),
-        numbers: coefficients.iter().map(|&c| c.into()).collect(),
-    };
     let filter = &FILTERS[p.wavelet as usize];
-    let mut picture = plane.subband(&subband(p, 0, Orientation::LL));
-    for level in 1..=p.depth {
-        let band = |orientation| plane.subband(&subband(p, level, orientation));
-        picture = interleave(
-            &picture,
-            &band(Orientation::HL),
-            &band(Orientation::LH),
-            &band(Orientation::HH),
-        );
+    let mut within = true;
+    let picture = build_picture(p, coefficients, |mut picture| {
         for filter_lines in [Grid::filter_columns, Grid::filter_rows] {
             for step in filter.steps {
-                if !limits.allow(&picture, step) {
-                    return Err(Aside::Range);
-                }
-                filter_lines(&mut picture, std::slice::from_ref(step));
+                within &= limits.allow(&picture, step);
+                filter_lines(&mut picture, slice::from_ref(step));
             }
         }
-        if picture.numbers.iter().any(|v| v.abs() > limits.numbers) {
-            return Err(Aside::Range);
-        }
-        if filter.shift == 1 {
-            picture.numbers.iter_mut().for_each(|v| *v = halve(*v));
-        }
+        within &= picture.numbers.iter().all(|v| v.abs() <= limits.numbers);
+        halve(filter, &mut picture, half);
+        picture
+    });
+    if within {
+        Ok(picture)
+    } else {
+        Err(Aside::Range)
     }
-    Ok(picture)
-}
-
-/// The samples of a padded picture.
-fn cropped(p: &Parameters, picture: &Grid) -> Vec<i32> {
-    let sample = |x, y| i32::try_from(picture.get(x, y)).expect("within the limits");
-    (0..p.height as usize)
-        .flat_map(|y| (0..p.width as usize).map(move |x| sample(x, y)))
-        .collect()
 }

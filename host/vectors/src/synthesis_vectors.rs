@@ -1,4 +1,4 @@
-//! Stored vectors for synthesise: what the proved program `synthesis_vectors` reads, and what it owes.
+//! Stored vectors for synthesise: what the proved program `synthesis_vectors` reads, and what is expected of it.
 //!
 //! The input is a sequence of jobs, every number big-endian: width (2 bytes), height (2), depth (1),
 //! wavelet (1), then the coefficient plane in raster order, each coefficient in two's complement (4).
@@ -11,46 +11,34 @@
 //! 1 -2 3
 //! ```
 //!
-//! The coefficients come from a seeded generator, and every answer and sample from [`synthesise`], so
+//! The coefficients come from a seeded generator, and every answer and sample from
+//! [`reference::synthesise`], so
 //! the vectors are the same in every run. The searches below only choose the coefficients.
 
-use crate::jobs::INITIAL_ENTRY;
-use crate::params::{
-    padded_area, padded_height, padded_width, sample_area, subband, Answer, Orientation,
-    Parameters, ACCEPTED, SYNTHESIS_RANGE,
-};
+use crate::levels::build_picture;
+use crate::pieces;
 use crate::random::Random;
-use crate::synthesise;
-use crate::transform::{fits_32_bits, interleave, Grid, FILTERS};
-use Orientation::{HH, HL, LH, LL};
+use crate::runs::run_synthesise;
+use crate::Vectors;
+use reference::params::Orientation::{self, HH, HL, LH, LL};
+use reference::params::{
+    padded_area, padded_width, subband_at, Answer, Parameters, ACCEPTED, SYNTHESIS_RANGE,
+};
+use reference::transform::{fits_32_bits, Grid, FILTERS};
 
 /// One call of synthesise.
-pub struct Job {
+pub struct SynthesisJob {
     pub parameters: Parameters,
     pub coefficients: Vec<i32>,
 }
 
-/// The input of the program and the output it owes.
-pub struct Vectors {
-    pub input: Vec<u8>,
-    pub output: String,
-}
-
 /// The stored vectors.
 pub fn synthesis_vectors() -> Vectors {
-    let mut vectors = Vectors {
-        input: Vec::new(),
-        output: String::new(),
-    };
-    for job in synthesis_jobs() {
-        vectors.input.extend(job_bytes(&job));
-        vectors.output.push_str(&job_text(&job));
-    }
-    vectors
+    Vectors::of(&synthesis_jobs(), job_bytes, job_text)
 }
 
 /// Every job of the stored vectors, in order.
-pub fn synthesis_jobs() -> Vec<Job> {
+pub fn synthesis_jobs() -> Vec<SynthesisJob> {
     let mut random = Random::new(20);
     let mut jobs = random_jobs(&mut random);
     jobs.extend(longest_jobs(&mut random));
@@ -63,21 +51,19 @@ pub fn synthesis_jobs() -> Vec<Job> {
         jobs.push(out_and_back(&mut random, wavelet));
     }
     for wavelet in [7, 255] {
-        jobs.push(random_job(&mut random, parameters(3, 2, 1, wavelet), 8));
+        jobs.push(random_job(&mut random, plain(3, 2, 1, wavelet), 8));
     }
     jobs
 }
 
 /// The answer of synthesise to a job, and its samples.
-pub fn run(job: &Job) -> (Answer, Vec<i32>) {
-    let mut work = vec![INITIAL_ENTRY; padded_area(&job.parameters)];
-    let mut samples = vec![INITIAL_ENTRY; sample_area(&job.parameters)];
-    let answer = synthesise(&job.parameters, &job.coefficients, &mut work, &mut samples);
+pub fn run(job: &SynthesisJob) -> (Answer, Vec<i32>) {
+    let (answer, _, samples) = run_synthesise(&job.parameters, &job.coefficients);
     (answer, samples)
 }
 
 /// A job as the program reads it.
-fn job_bytes(job: &Job) -> Vec<u8> {
+fn job_bytes(job: &SynthesisJob) -> Vec<u8> {
     let p = &job.parameters;
     let mut bytes = Vec::new();
     bytes.extend(u16::to_be_bytes(p.width as u16));
@@ -89,8 +75,8 @@ fn job_bytes(job: &Job) -> Vec<u8> {
     bytes
 }
 
-/// What the program owes for a job.
-fn job_text(job: &Job) -> String {
+/// What is expected of the program for a job.
+fn job_text(job: &SynthesisJob) -> String {
     let p = &job.parameters;
     let (answer, samples) = run(job);
     let mut text = format!(
@@ -108,31 +94,31 @@ fn job_text(job: &Job) -> String {
 }
 
 /// The parameters that synthesise looks at; the others are as for one codeblock a level.
-fn parameters(width: u32, height: u32, depth: u32, wavelet: u32) -> Parameters {
-    crate::pieces::parameters(width, height, depth, wavelet, false)
+fn plain(width: u32, height: u32, depth: u32, wavelet: u32) -> Parameters {
+    pieces::plain(width, height, depth, wavelet, false)
 }
 
 /// A job whose coefficients are random numbers of so many bits.
-fn random_job(random: &mut Random, parameters: Parameters, bits: u32) -> Job {
-    let spread = 1 << (bits - 1);
+fn random_job(random: &mut Random, parameters: Parameters, bits: u32) -> SynthesisJob {
+    let bound = 1 << (bits - 1);
     let coefficients = (0..padded_area(&parameters))
-        .map(|_| random.range(-spread, spread - 1) as i32)
+        .map(|_| random.range(-bound, bound - 1) as i32)
         .collect();
-    Job {
+    SynthesisJob {
         parameters,
         coefficients,
     }
 }
 
 /// Every wavelet and depth at small sizes, most of them padded, with numbers of 8 to 20 bits.
-fn random_jobs(random: &mut Random) -> Vec<Job> {
+fn random_jobs(random: &mut Random) -> Vec<SynthesisJob> {
     let sizes = [(1, 1), (2, 1), (1, 2), (3, 5), (7, 6), (17, 9), (16, 8)];
     let mut jobs = Vec::new();
     for wavelet in 0..7 {
         for depth in 0..=4 {
             for (k, (width, height)) in sizes.into_iter().enumerate() {
                 let bits = [8, 12, 16, 20][(wavelet as usize + depth as usize + k) % 4];
-                let p = parameters(width, height, depth, wavelet);
+                let p = plain(width, height, depth, wavelet);
                 jobs.push(random_job(random, p, bits));
             }
         }
@@ -141,21 +127,21 @@ fn random_jobs(random: &mut Random) -> Vec<Job> {
 }
 
 /// The longest rows and columns there are.
-fn longest_jobs(random: &mut Random) -> Vec<Job> {
+fn longest_jobs(random: &mut Random) -> Vec<SynthesisJob> {
     [
-        parameters(4096, 1, 1, 0),
-        parameters(4096, 1, 1, 5),
-        parameters(4096, 1, 4, 6),
-        parameters(1, 4096, 1, 2),
-        parameters(1, 4096, 1, 6),
-        parameters(1, 4096, 4, 5),
+        plain(4096, 1, 1, 0),
+        plain(4096, 1, 1, 5),
+        plain(4096, 1, 4, 6),
+        plain(1, 4096, 1, 2),
+        plain(1, 4096, 1, 6),
+        plain(1, 4096, 4, 5),
     ]
     .map(|p| random_job(random, p, 8))
     .into()
 }
 
 /// Planes of the largest and the smallest coefficient, alike, alternating, or in LL alone.
-fn extreme_jobs() -> Vec<Job> {
+fn extreme_jobs() -> Vec<SynthesisJob> {
     /// The coefficient at a column and row; the truth says whether that lies in LL.
     type Pattern = fn(usize, usize, bool) -> i32;
     let patterns: [Pattern; 7] = [
@@ -171,13 +157,13 @@ fn extreme_jobs() -> Vec<Job> {
     for wavelet in 0..7 {
         for depth in 0..=3 {
             for pattern in patterns {
-                let p = parameters(5, 3, depth, wavelet);
-                let low = subband(&p, 0, LL);
+                let p = plain(5, 3, depth, wavelet);
+                let low = subband_at(&p, 0, LL);
                 let coefficients = (0..padded_area(&p))
-                    .map(|place| (place % padded_width(&p), place / padded_width(&p)))
+                    .map(|index| (index % padded_width(&p), index / padded_width(&p)))
                     .map(|(x, y)| pattern(x, y, x < low.width && y < low.height))
                     .collect();
-                jobs.push(Job {
+                jobs.push(SynthesisJob {
                     parameters: p,
                     coefficients,
                 });
@@ -198,27 +184,27 @@ fn extreme(largest: bool) -> i32 {
 
 /// The last number that fits and the first that doesn't, at both ends: the Haar filter takes LL, HL to
 /// LL - floor((HL + 1) / 2) first.
-pub fn edge_jobs() -> Vec<Job> {
+pub fn edge_jobs() -> Vec<SynthesisJob> {
     [
         [i32::MAX, -1, 0, 0],
         [i32::MAX, -2, 0, 0],
         [i32::MIN, 0, 0, 0],
         [i32::MIN, 1, 0, 0],
     ]
-    .map(|plane| Job {
-        parameters: parameters(2, 2, 1, 3),
+    .map(|plane| SynthesisJob {
+        parameters: plain(2, 2, 1, 3),
         coefficients: plane.into(),
     })
     .into()
 }
 
-/// A job of depth 4 that is refused at a level: small numbers, and one place of the level at which as
+/// A job of depth 4 that is refused at a level: small numbers, and one position of the level at which as
 /// few bands as do it, from one up, hold an extreme.
-pub fn refused_at(random: &mut Random, wavelet: u32, level: u32) -> Job {
-    let p = parameters(9, 13, 4, wavelet);
+pub fn refused_at(random: &mut Random, wavelet: u32, level: u32) -> SynthesisJob {
+    let p = plain(9, 13, 4, wavelet);
     let quiet = random_job(random, p, 8);
     let p = &quiet.parameters;
-    let size = subband(p, level, HL);
+    let size = subband_at(p, level, HL);
     let sets: [&[Orientation]; 7] = [
         &[HL],
         &[LH],
@@ -230,15 +216,15 @@ pub fn refused_at(random: &mut Random, wavelet: u32, level: u32) -> Job {
     ];
     for set in sets {
         for largest in [true, false] {
-            for place in 0..size.width * size.height {
+            for index in 0..size.width * size.height {
                 let mut coefficients = quiet.coefficients.clone();
                 for &orientation in set {
-                    let band = subband(p, level, orientation);
-                    let (x, y) = (place % size.width, place / size.width);
+                    let band = subband_at(p, level, orientation);
+                    let (x, y) = (index % size.width, index / size.width);
                     coefficients[(band.top + y) * padded_width(p) + band.left + x] =
                         extreme(largest);
                 }
-                let job = Job {
+                let job = SynthesisJob {
                     parameters: p.clone(),
                     coefficients,
                 };
@@ -252,9 +238,9 @@ pub fn refused_at(random: &mut Random, wavelet: u32, level: u32) -> Job {
 }
 
 /// A job of depth 1 that is refused though every number at the level's end fits.
-pub fn out_and_back(random: &mut Random, wavelet: u32) -> Job {
+pub fn out_and_back(random: &mut Random, wavelet: u32) -> SynthesisJob {
     for _ in 0..100_000 {
-        let p = parameters(3, 2, 1, wavelet);
+        let p = plain(3, 2, 1, wavelet);
         let bits = random.pick(&[31, 32]);
         let job = random_job(random, p, bits);
         if run(&job).0.status == SYNTHESIS_RANGE && level_end_fits(&job) {
@@ -266,23 +252,18 @@ pub fn out_and_back(random: &mut Random, wavelet: u32) -> Job {
 
 /// Whether every number fits after the filters of a job of depth 1, and so after the shift too. This
 /// is a wrong reading of refusal 10, which looks at each lifting step.
-pub fn level_end_fits(job: &Job) -> bool {
+pub fn level_end_fits(job: &SynthesisJob) -> bool {
     let picture = filtered_level(job);
     picture.numbers.iter().all(|&number| fits_32_bits(number))
 }
 
 /// The picture of a job of depth 1 after the filters and before the shift, with whatever numbers.
-pub fn filtered_level(job: &Job) -> Grid {
+pub fn filtered_level(job: &SynthesisJob) -> Grid {
     let p = &job.parameters;
-    let plane = Grid {
-        width: padded_width(p),
-        height: padded_height(p),
-        numbers: job.coefficients.iter().map(|&c| i128::from(c)).collect(),
-    };
-    let [ll, hl, lh, hh] = [LL, HL, LH, HH].map(|band| plane.subband(&subband(p, 1, band)));
     let steps = FILTERS[p.wavelet as usize].steps;
-    let mut picture = interleave(&ll, &hl, &lh, &hh);
-    picture.filter_columns(steps);
-    picture.filter_rows(steps);
-    picture
+    build_picture(p, &job.coefficients, |mut picture| {
+        picture.filter_columns(steps);
+        picture.filter_rows(steps);
+        picture
+    })
 }

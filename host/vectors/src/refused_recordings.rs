@@ -2,18 +2,18 @@
 //!
 //! Refusal 4 can't occur: a count is 0, which means 1, or 1..255.
 
-use crate::encode::{encode_body, encode_subbands, EncodeOptions, SubbandOptions};
-use crate::params::{
-    padded_area, padded_height, padded_width, subbands, Parameters, Subband, MAX_QUANTISER,
-};
 use crate::pieces::{
-    joined, numbers, parameters, signed_numbers, subband_bytes, with_codeblocks, LARGEST_NUMBER,
+    joined, numbers, plain, signed_numbers, subband_bytes, with_codeblocks, LARGEST_NUMBER,
 };
 use crate::random::Random;
-use crate::recording::Entry;
-use crate::recording_vectors::{entry, synthesis_entry, Recording};
-use crate::unpack::dequantise;
-use crate::vectors::{out_and_back, refused_at, Job};
+use crate::recording_vectors::{entry_of, synthesis_entry, Recording};
+use crate::synthesis_vectors::{out_and_back, refused_at, SynthesisJob};
+use reference::encode::{encode_body, encode_subbands, EncodeOptions, SubbandOptions};
+use reference::params::{
+    padded_area, padded_height, padded_width, subbands, Parameters, Subband, MAX_QUANTISER,
+};
+use reference::recording::Entry;
+use reference::unpack::dequantise;
 
 const MAX: i64 = i32::MAX as i64;
 const MIN: i64 = i32::MIN as i64;
@@ -36,11 +36,11 @@ pub fn refused_recordings() -> Vec<Recording> {
 
 /// Sizes, depths, wavelets and padded areas out of range; the body would be accepted.
 fn parameter_recordings() -> Vec<Recording> {
-    let of = |p: Parameters| entry(&p, vec![0x80; 13]);
-    let size = |(width, height)| of(parameters(width, height, 1, 1, true));
-    let depth = |depth| of(parameters(5, 4, depth, 1, true));
-    let wavelet = |wavelet| of(parameters(5, 4, 2, wavelet, false));
-    let area = |(width, height, depth)| of(parameters(width, height, depth, 1, true));
+    let of = |p: Parameters| entry_of(&p, vec![0x80; 13]);
+    let size = |(width, height)| of(plain(width, height, 1, 1, true));
+    let depth = |depth| of(plain(5, 4, depth, 1, true));
+    let wavelet = |wavelet| of(plain(5, 4, 2, wavelet, false));
+    let area = |(width, height, depth)| of(plain(width, height, depth, 1, true));
     vec![
         Recording::new(
             "refused-1-sizes",
@@ -164,11 +164,11 @@ fn fault_recording(random: &mut Random, name: &str, fault: Fault) -> Recording {
     let mut entries = Vec::new();
     let places = (0..13).map(|number| (4, number));
     for (depth, number) in places.chain([(0, 0), (1, 3), (2, 4)]) {
-        let p = parameters(9, 7, depth, number as u32 % 7, number % 2 == 0);
+        let p = plain(9, 7, depth, number as u32 % 7, number % 2 == 0);
         let bands = random_subbands(random, &p);
         let behind = bands[number + 1..].concat();
         let fault = fault(&subbands(&p)[number], &behind);
-        entries.push(entry(&p, joined(bands[..number].concat(), &fault)));
+        entries.push(entry_of(&p, joined(bands[..number].concat(), &fault)));
     }
     Recording::new(name, &entries)
 }
@@ -187,8 +187,8 @@ fn random_subbands(random: &mut Random, p: &Parameters) -> Vec<Vec<u8>> {
 
 /// An entry of depth 0 with these values.
 fn row(width: u32, height: u32, intra: bool, list: &[i64]) -> Entry {
-    let p = parameters(width, height, 0, 0, intra);
-    entry(&p, subband_bytes(0, &signed_numbers(list)))
+    let p = plain(width, height, 0, 0, intra);
+    entry_of(&p, subband_bytes(0, &signed_numbers(list)))
 }
 
 /// Predicted values that leave 32 bits in the top row, in the left column and inside; and a value beyond
@@ -211,10 +211,10 @@ fn prediction_recording() -> Recording {
         entries.push(row(2, 1, true, &list));
     }
     // A codeblock that is flagged is predicted too: MAX beside it, and 1 below.
-    let p = with_codeblocks(&parameters(2, 2, 0, 0, true), 2, 2);
+    let p = with_codeblocks(&plain(2, 2, 0, 0, true), 2, 2);
     let plane = [MAX, 0, 0, 1];
     let options = EncodeOptions::uniform(&p, SubbandOptions::default());
-    entries.push(entry(&p, encode_body(&p, &plane, &options)));
+    entries.push(entry_of(&p, encode_body(&p, &plane, &options)));
     Recording::new("refused-9-predicted", &entries)
 }
 
@@ -237,8 +237,8 @@ fn synthesis_recordings(random: &mut Random) -> Vec<Recording> {
     // The Haar filter takes MAX, 2 to MAX - 1, MAX + 1, and the second column or row is padding.
     let entries =
         [(1, 2, [i32::MAX, 2, 0, 0]), (2, 1, [i32::MAX, 0, 2, 0])].map(|(width, height, plane)| {
-            synthesis_entry(&Job {
-                parameters: parameters(width, height, 1, 3, false),
+            synthesis_entry(&SynthesisJob {
+                parameters: plain(width, height, 1, 3, false),
                 coefficients: plane.into(),
             })
         });
@@ -268,13 +268,13 @@ fn parameter_order(name: &str, body: &[u8]) -> Recording {
     ];
     let mut entries = Vec::new();
     for set in 0..16 {
-        let mut p = parameters(5, 4, 2, 1, true);
+        let mut p = plain(5, 4, 2, 1, true);
         for (k, fault) in faults.iter().enumerate() {
             if set >> k & 1 == 1 {
                 fault(&mut p);
             }
         }
-        entries.push(entry(&p, body.to_vec()));
+        entries.push(entry_of(&p, body.to_vec()));
     }
     Recording::new(name, &entries)
 }
@@ -314,9 +314,9 @@ fn prediction_order() -> Recording {
     ];
     for intra in [true, false] {
         for fault in &next {
-            let p = parameters(3, 2, 1, 1, intra);
+            let p = plain(3, 2, 1, 1, intra);
             let low = subband_bytes(0, &signed_numbers(&[MAX, 1]));
-            entries.push(entry(&p, joined(low, fault)));
+            entries.push(entry_of(&p, joined(low, fault)));
         }
     }
     Recording::new("order-prediction-after-its-subband", &entries)
@@ -338,7 +338,7 @@ fn unpack_before_synthesis(random: &mut Random) -> Recording {
             numbers(&[1, 116]),
             subband_bytes(0, &signed_numbers(&[MAX + 1])),
         ] {
-            entries.push(entry(p, joined(start.clone(), &fault)));
+            entries.push(entry_of(p, joined(start.clone(), &fault)));
         }
     }
     Recording::new("order-6-to-9-before-10", &entries)
@@ -353,11 +353,11 @@ fn lowest_level(random: &mut Random) -> Recording {
         for level in 1..=3 {
             let mut both = refused_at(random, wavelet, level);
             let p = &both.parameters;
-            for place in 0..padded_area(p) {
-                let (x, y) = (place % padded_width(p), place / padded_width(p));
+            for index in 0..padded_area(p) {
+                let (x, y) = (index % padded_width(p), index / padded_width(p));
                 // What lies outside the lower levels is level 4.
                 if x >= padded_width(p) / 2 || y >= padded_height(p) / 2 {
-                    both.coefficients[place] = last.coefficients[place];
+                    both.coefficients[index] = last.coefficients[index];
                 }
             }
             entries.push(synthesis_entry(&both));

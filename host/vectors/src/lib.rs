@@ -1,0 +1,40 @@
+//! Chooses the stored jobs and recordings, and has the reference decoder answer them.
+//!
+//! The reference was written from the papers alone. What is here was written with the proved code in
+//! sight, so as to reach every case and every border of it. So it is a crate of its own, and every answer
+//! comes from the reference.
+//!
+//! [`mod@synthesis_vectors`] and [`mod@unpack_vectors`] make the stored jobs of the two proved programs
+//! of these names, [`recording_vectors`] (with [`mod@refused_recordings`] and [`wrong_tables`]) and
+//! [`mod@samples`] the stored recordings. They share the generator [`random`], the [`pieces`] of bodies,
+//! [`pictures`], [`levels`] of synthesis and [`runs`] of the three jobs. [`command_line`] is what all
+//! commands above the reference read theirs with.
+
+pub mod command_line;
+pub mod levels;
+pub mod pictures;
+pub mod pieces;
+pub mod random;
+pub mod recording_vectors;
+pub mod refused_recordings;
+pub mod runs;
+pub mod samples;
+pub mod synthesis_vectors;
+pub mod unpack_vectors;
+pub mod wrong_tables;
+
+/// The input of a proved program, and the output that is expected of it.
+pub struct Vectors {
+    pub input: Vec<u8>,
+    pub output: String,
+}
+
+impl Vectors {
+    /// The input and the output of these jobs, one after the other.
+    fn of<Job>(jobs: &[Job], input: fn(&Job) -> Vec<u8>, output: fn(&Job) -> String) -> Vectors {
+        Vectors {
+            input: jobs.iter().flat_map(input).collect(),
+            output: jobs.iter().map(output).collect(),
+        }
+    }
+}
