@@ -21,6 +21,8 @@ use base::status::VALUE_OUT_OF_RANGE;
 use exp_golomb::codes::Number;
 use exp_golomb::codes::read_signed;
 use exp_golomb::codes::status;
+use lookups::first_bits;
+use lookups::first_value;
 use lookups::is_window;
 use lookups::lookup_at;
 use lookups::starts_with_ones;
@@ -139,8 +141,8 @@ fn read_window(
     }
 }
 
-// Reads values by the bits of a window: all that are left, or 32 of them, at once where they are zeros. How many is free: whatever the count,
-// they are the values that the bits begin with.
+// Reads values by the bits of a window: the last four one by one; of more, all that are left, or 32, at once where they are zeros; others by
+// lookups. How many is free: whatever the count, they are the values that the bits begin with.
 fn read_batch(
     plane: &mut [i32],
     layout: Layout,
@@ -156,6 +158,12 @@ fn read_batch(
         ⌝ }
 {
     let left = layout.count - from;
+    if 64 <= left {
+        return read_many(plane, layout, from, window, table, small);
+    }
+    if left <= 4 {
+        return read_codes(plane, layout, from, window, table, small);
+    }
     if left < 32 {
         if starts_with_ones(window, left) {
             return Batch {
@@ -170,6 +178,111 @@ fn read_batch(
         };
     }
     read_lookups(plane, layout, from, window, table, small)
+}
+
+// Reads values by the bits of a window where 63 or more are left: 32 at once where they are zeros, others by lookups.
+fn read_many(
+    plane: &mut [i32],
+    layout: Layout,
+    from: usize,
+    window: u64,
+    table: &[u16; 256],
+    small: &[i32; 32],
+) -> Batch
+    requires { ⌜ (from + 63 ≤ layout .count) × Ready layout from (now plane) × KnowsCodes (now table) ⌝ }
+    ensures { λ r. ⌜
+        (from + r .count ≤ layout .count)
+        × ReadsAhead window (now (small .entry)) (indexOf layout) from (now (plane .entry)) r (now (plane .exit))
+        ⌝ }
+{
+    if starts_with_ones(window, 32) {
+        return Batch {
+            count: 32,
+            bits: 32,
+        };
+    }
+    read_many_lookups(plane, layout, from, window, table, small)
+}
+
+// Reads values by at most seven lookups where none can pass the layout's end: each has nine values at most, and 63 are left.
+fn read_many_lookups(
+    plane: &mut [i32],
+    layout: Layout,
+    from: usize,
+    window: u64,
+    table: &[u16; 256],
+    small: &[i32; 32],
+) -> Batch
+    requires { ⌜ (from + 63 ≤ layout .count) × Ready layout from (now plane) × KnowsCodes (now table) ⌝ }
+    ensures { λ r. ⌜
+        (from + r .count ≤ layout .count)
+        × ReadsAhead window (now (small .entry)) (indexOf layout) from (now (plane .entry)) r (now (plane .exit))
+        ⌝ }
+{
+    let mut w = window;
+    let mut i = from;
+    let mut bits = 0;
+    let mut k: usize = 0;
+    while k < 7 {
+        let next = lookup_at(table, w);
+        if next.bits == 0 {
+            return Batch {
+                count: i - from,
+                bits,
+            };
+        }
+        let index = index_at(layout, i + next.zeros);
+        let value = next.value;
+        plane[index] = small[value];
+        w = w << next.bits;
+        i += next.count;
+        bits += next.bits;
+        k += 1;
+    }
+    Batch {
+        count: i - from,
+        bits,
+    }
+}
+
+// Reads the last values of a layout by a lookup for each: as many turns as values, whatever they are, so that a processor can foresee them.
+fn read_codes(
+    plane: &mut [i32],
+    layout: Layout,
+    from: usize,
+    window: u64,
+    table: &[u16; 256],
+    small: &[i32; 32],
+) -> Batch
+    requires { ⌜ (layout .count ≤ from + 7) × Ready layout from (now plane) × KnowsCodes (now table) ⌝ }
+    ensures { λ r. ⌜
+        (from + r .count ≤ layout .count)
+        × ReadsAhead window (now (small .entry)) (indexOf layout) from (now (plane .entry)) r (now (plane .exit))
+        ⌝ }
+{
+    let mut w = window;
+    let mut i = from;
+    let mut bits = 0;
+    while i < layout.count {
+        let lookup = lookup_at(table, w);
+        let taken = first_bits(lookup);
+        if taken == 0 {
+            return Batch {
+                count: i - from,
+                bits,
+            };
+        }
+        let index = index_at(layout, i);
+        let value = first_value(lookup);
+        plane[index] = small[value];
+        w = w << taken;
+        bits += taken;
+        i += 1;
+    }
+    Batch {
+        count: i - from,
+        bits,
+    }
 }
 
 // Reads values by at most seven lookups. Of zeros that pass the layout's end only those before it are taken.

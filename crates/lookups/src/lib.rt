@@ -1,5 +1,6 @@
 // The next bits of data as one number, and what a table tells of eight of them.
 ghost use mathlib.Core.Path.{_≡_};
+ghost use mathlib.Core.Logic.{_≢_};
 ghost use Prim.Native.Nat.{_+_, _-_, _*_, _/_, _^_, _≤_, _<_};
 ghost use lib.Dec.{eqb};
 ghost use lib.ListN.{length};
@@ -74,6 +75,25 @@ pub fn lookup_at(table: &[u16; 256], w: u64) -> Lookup
         value: entry / 512,
         bits: entry % 16,
     }
+}
+
+// Of what a lookup tells, the value of the first code, and its bits: a zero has one.
+pub fn first_value(lookup: Lookup) -> usize
+    ensures { λ r. ⌜ (lookup .zeros ≢ 0 → r ≡ 0) × (lookup .zeros ≡ 0 → r ≡ lookup .value) ⌝ }
+{
+    if 0 < lookup.zeros {
+        return 0;
+    }
+    lookup.value
+}
+
+pub fn first_bits(lookup: Lookup) -> usize
+    ensures { λ r. ⌜ (lookup .zeros ≢ 0 → r ≡ 1) × (lookup .zeros ≡ 0 → r ≡ lookup .bits) ⌝ }
+{
+    if 0 < lookup.zeros {
+        return 1;
+    }
+    lookup.bits
 }
 
 // An entry, for sums.

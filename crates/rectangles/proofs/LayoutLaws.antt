@@ -51,3 +51,11 @@ module _ (a : Rectangle) (wide : a .width ≤ a .stride) (i : ℕ) (below : i < 
             let same-row : k / a .width ≡ row = div-eq-of-lt-le (a .width) (omega (arith, here .whole)) inside in
             gaps _ k (rw (same-row, mul-zero k) (omega arith));
       }
+
+  -- the only one
+  pub covers-only : a .height ≡ 1 → Covers a i (record { start = a .start; count = a .width; reciprocal = 0; gap = a .stride - a .width })
+  covers-only single =
+      let first : 0 ≡ i / a .width = omega (arith, in-area (a .width) (a .height) i below .row-below) in
+      let start-is : a .start + 0 * (a .stride - a .width) ≡ a .start = omega arith in
+      let count-is : (0 + 1) * a .width ≡ a .width = omega arith in
+      rw (start-is, count-is) at (covers-row 0 first)

@@ -1,6 +1,7 @@
-//! Bodies for the borders of a reader that takes the values of short rows, those of up to 64, as one run.
-//! So numbers stand at the ends of rows, zeros end about the end of a run, go on past it or fill it, and
-//! data ends inside them.
+//! Bodies for the borders of a reader that takes the values of short rows, those of up to 64, as one run,
+//! looks for the run's end only where it is near, and takes the last few values one by one. So numbers
+//! stand at the ends of rows, zeros end about the end of a run, go on past it or fill it, the last values
+//! are of every kind, and data ends inside them.
 
 use crate::borders::{
     body_of_bands, number_of_code, number_that_fits, put_runs, with_other_data, with_other_end,
@@ -74,11 +75,13 @@ fn put_numbers(random: &mut Random, run: &RowsOfRun, index: u32, quantised: &mut
 }
 
 /// Puts a number with a long code, so that a reader takes up the data anew behind it, where 1 to 35 values
-/// are left; they are zeros, or zeros but for one of the last two.
+/// are left, or about 64. The last few may be anything; more are zeros, but now and then for the first of
+/// many and for one of the last two.
 fn put_tail(random: &mut Random, run: &RowsOfRun, index: u32, quantised: &mut [i64]) {
     let indices = run.concat();
-    let (about_32, any) = (random.range(31, 33), random.range(1, 35));
-    let left = random.pick(&[about_32, any, any]) as usize;
+    let any = random.range(1, 35);
+    let (about_32, about_64) = (random.range(31, 33), random.range(39, 66));
+    let left = random.pick(&[any, any, any, any, about_32, about_32, about_64]) as usize;
     let Some(before) = indices.len().checked_sub(1 + left) else {
         return;
     };
@@ -87,9 +90,18 @@ fn put_tail(random: &mut Random, run: &RowsOfRun, index: u32, quantised: &mut [i
         _ => number_of_code(random, 10),
     };
     quantised[indices[before]] = number;
+    let tail = &indices[before + 1..];
     let from_end = random.range(-2, 2);
-    if (1..=left as i64).contains(&from_end) {
-        quantised[indices[indices.len() - from_end as usize]] = random_number(random, index);
+    if left < 7 {
+        for &at in tail {
+            if random.range(0, 1) == 0 {
+                quantised[at] = random_number(random, index);
+            }
+        }
+    } else if (1..=2).contains(&from_end) {
+        quantised[tail[left - from_end as usize]] = random_number(random, index);
+    } else if left > 35 {
+        quantised[tail[0]] = random_number(random, index);
     }
 }
 

@@ -27,6 +27,10 @@ const LAST_BITS: u8 = 7;
 const EMPTY: u8 = 8;
 /// The codeblock behind one that is skipped starts where that one does.
 const SKIPPED: u8 = 9;
+/// No lookup asks for a run's end where 40 values are left.
+const FAR: u8 = 10;
+/// Of the last values, zeros take the bits of all that a lookup has.
+const LAST_ZEROS: u8 = 11;
 
 /// The bits of a window.
 const WINDOW: usize = 56;
@@ -69,6 +73,31 @@ fn window(bits: &Bits) -> u64 {
     (0..WINDOW).fold(0, |w, k| w << 1 | bit(k)) << (64 - WINDOW)
 }
 
+/// Reads the last values, one by one: how many.
+fn read_last(
+    bits: &mut Bits,
+    layout: &Layout,
+    from: usize,
+    fault: u8,
+    mut store: impl FnMut(usize, i64) -> Result<(), u32>,
+) -> Result<usize, u32> {
+    let mut w = window(bits);
+    for i in from..layout.count {
+        let (zeros, number, mut taken) = lookup(w);
+        if taken == 0 {
+            return Ok(i - from);
+        }
+        if zeros > 0 {
+            taken = if fault == LAST_ZEROS { taken } else { 1 };
+        } else if let Some(number) = number {
+            store(i, number)?;
+        }
+        bits.at += taken;
+        w <<= taken;
+    }
+    Ok(layout.count - from)
+}
+
 /// Reads values by the next bits: how many.
 fn read_window(
     bits: &mut Bits,
@@ -79,6 +108,10 @@ fn read_window(
 ) -> Result<usize, u32> {
     let mut w = window(bits);
     let left = layout.count - from;
+    let is_far = left >= if fault == FAR { 40 } else { 64 };
+    if left <= 4 {
+        return read_last(bits, layout, from, fault, store);
+    }
     let least = if fault == THIRTY_TWO { 31 } else { 32 };
     let many = if left < least { left } else { 32 };
     let asked = many - usize::from(fault == ALL_LEFT && left < 32);
@@ -89,7 +122,7 @@ fn read_window(
     let mut i = from;
     for _ in 0..if fault == LOOKUPS { 8 } else { 7 } {
         let (zeros, number, taken) = lookup(w);
-        if i + zeros >= layout.count {
+        if !is_far && i + zeros >= layout.count {
             let cut = layout.count - i;
             bits.at += if fault == CUT { zeros } else { cut };
             return Ok(layout.count - from);
@@ -149,7 +182,7 @@ fn layouts(start: usize, stride: usize, width: usize, height: usize, fault: u8) 
         reciprocal,
         gap,
     };
-    if width > 64 {
+    if width > 64 || height == 1 {
         let rows = (0..height).map(|row| run(start + row * stride, width, 0));
         return rows.collect();
     }
@@ -208,7 +241,7 @@ fn a_reader_of_many_rows_without_a_fault_is_like_the_reference() {
 
 #[test]
 fn faults_at_the_borders_of_many_rows_are_found_often() {
-    let faults: [(&str, Decoder); 9] = [
+    let faults: [(&str, Decoder); 11] = [
         ("reciprocal", fast::<RECIPROCAL>),
         ("coarse", fast::<COARSE>),
         ("all left", fast::<ALL_LEFT>),
@@ -218,6 +251,8 @@ fn faults_at_the_borders_of_many_rows_are_found_often() {
         ("last bits", fast::<LAST_BITS>),
         ("empty", fast::<EMPTY>),
         ("skipped", fast::<SKIPPED>),
+        ("far", fast::<FAR>),
+        ("last zeros", fast::<LAST_ZEROS>),
     ];
     for (name, decoder) in faults {
         let aimed = cases(Kind::Rectangles).take(1000);

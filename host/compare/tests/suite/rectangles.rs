@@ -20,17 +20,24 @@ fn all_read() -> &'static [Read] {
     })
 }
 
-/// The zeros that a window begins with: the first of a run, or one behind a code too long to look up.
-fn zeros_at_windows() -> impl Iterator<Item = &'static Code> {
+/// The codes that a window begins with, with the subband that they are of and which of its codes they are:
+/// the first of a run, or one behind a code too long to look up.
+fn codes_at_windows() -> impl Iterator<Item = (&'static Read, usize, &'static Code)> {
     all_read().iter().flat_map(|read| {
         let starts = read
             .codes
             .iter()
             .enumerate()
             .filter(|(k, code)| code.run_before() == 0 || read.codes[k - 1].bits > LOOKED_UP);
-        let codes = starts.map(|(_, code)| code);
-        codes.filter(|code| code.number == 0 && code.at + WINDOW <= code.end)
+        let there = starts.filter(|(_, code)| code.at + WINDOW <= code.end);
+        there.map(move |(k, code)| (read, k, code))
     })
+}
+
+/// The zeros that a window begins with.
+fn zeros_at_windows() -> impl Iterator<Item = &'static Code> {
+    let codes = codes_at_windows().map(|(_, _, code)| code);
+    codes.filter(|code| code.number == 0)
 }
 
 #[test]
@@ -119,6 +126,41 @@ fn about_as_many_ones_start_a_window_as_values_are_left() {
             let count = met.get(&(left, past));
             assert!(count >= Some(&5), "{left} left, {past} past: {count:?}");
         }
+    }
+}
+
+#[test]
+fn the_last_values_are_zeros_and_short_and_long_codes_in_every_order() {
+    let mut met = BTreeSet::new();
+    for (read, k, code) in codes_at_windows().filter(|(_, _, code)| code.run_left() <= 4) {
+        let kind = |code: &Code| match code.bits {
+            1 => 0,
+            2..=LOOKED_UP => 1,
+            _ => 2,
+        };
+        let last = read.codes[k..].iter().take(code.run_left());
+        met.insert(last.map(kind).collect::<Vec<_>>());
+    }
+    // Four are asked for without long codes, or there would be too many.
+    for (left, kinds) in [(1, 3), (2, 3), (3, 3), (4, 2)] {
+        for order in 0..u32::pow(kinds, left) {
+            let digit = |k| order / u32::pow(kinds, k) % kinds;
+            let codes: Vec<_> = (0..left).map(digit).collect();
+            assert!(met.contains(&codes), "{codes:?}");
+        }
+    }
+}
+
+#[test]
+fn about_64_values_are_left_where_a_window_begins_with_a_number() {
+    let mut met = BTreeMap::new();
+    for (_, _, code) in codes_at_windows().filter(|(_, _, code)| code.number != 0) {
+        let looked_up = code.bits <= LOOKED_UP;
+        *met.entry((looked_up, code.run_left())).or_insert(0) += 1;
+    }
+    for left in 40..=66 {
+        let count = met.get(&(true, left));
+        assert!(count >= Some(&5), "{left} left: {count:?}");
     }
 }
 
