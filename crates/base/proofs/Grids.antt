@@ -1,4 +1,4 @@
--- Laws of rows in a plane: a row's place is its number times the stride, and rows do not meet where they are no wider than the stride.
+-- Laws of rows in a plane: a row starts at its number times the stride, and rows do not meet where they are no wider than the stride.
 -- Assumes nothing.
 use mathlib.Core.Path.{_≡_, _∙_, subst}
 use mathlib.Core.Logic.{_≢_}
@@ -9,7 +9,7 @@ use native.Mathlib.Decide.{decLt}
 use native.Mathlib.Omega.{arith}
 use lib.ListN.{length, getD}
 use Rattle.base.specs.Fill.{fill}
-use Rattle.base.proofs.Fills.{getD-fill-in, getD-fill-out}
+use Rattle.base.proofs.FillLaws.{getD-fill-in, getD-fill-out}
 
 -- a row ends before the next one starts
 pub row-room : (stride row rows : ℕ) → row < rows → row * stride + stride ≤ rows * stride
@@ -18,7 +18,7 @@ row-room stride row rows below = rw suc-mul at (mul-le-mul-right stride below)
 pub row-end : (row rows stride width : ℕ) → row < rows → width ≤ stride → row * stride + width ≤ rows * stride
 row-end row rows stride width below narrow = omega (arith, row-room stride row rows below)
 
--- places in different rows differ
+-- entries in different rows differ
 pub rows-apart : (s a b x y : ℕ) → a ≢ b → x < s → y < s → a * s + x ≢ b * s + y
 rows-apart s a b x y other hx hy same =
     elim (decLt a b) [
@@ -28,7 +28,7 @@ rows-apart s a b x y other hx hy same =
           omega (arith, row-end b a s s above (omega arith))
     ]
 
--- a part of row a, from column o on, that starts at place p and is filled
+-- a part of row a, from column o on, that starts at index p and is filled
 module _ {ℓ} {A : Type ℓ} (l : List A) (s a o n p : ℕ) (at : p ≡ a * s + o) (f : ℕ → A) (e : A) where
   -- what stands in it
   pub row-filled : (k : ℕ) → k < n → p + n ≤ length l → getD (fill l p n f) (a * s + (o + k)) e ≡ f k

@@ -7,9 +7,9 @@ use native.Mathlib.Nat.{add-mul, mul-add, mul-assoc, mul-right-comm, mul-le-mul-
 use native.Mathlib.Omega.{arith}
 
 -- m times w is p and e more, and i times e is less than p
-near-quotient : (p w m e i k x : ℕ) → m * w ≡ p + e → i * e < p → i ≡ k * w + x → x < w → i * m / p ≡ k
-near-quotient p w m e i k x near little split less =
-    let product : i * m * w ≡ i * p + i * e = mul-assoc i m w ∙ ap (λ (n : ℕ). i * n) near ∙ mul-add i p e in
+quotient-by-product : (p w m e i k x : ℕ) → m * w ≡ p + e → i * e < p → i ≡ k * w + x → x < w → i * m / p ≡ k
+quotient-by-product p w m e i k x more little split less =
+    let product : i * m * w ≡ i * p + i * e = mul-assoc i m w ∙ ap (λ (n : ℕ). i * n) more ∙ mul-add i p e in
     let parts : i * p ≡ k * w * p + x * p = ap (λ (n : ℕ). n * p) split ∙ add-mul (k * w) x p in
     let under : k * p * w ≡ k * w * p = mul-right-comm k p w in
     let over : (k + 1) * p * w ≡ k * w * p + w * p = mul-right-comm (k + 1) p w ∙ ap (λ (n : ℕ). n * p) (add-mul k 1 w ∙ ap (λ (n : ℕ). k * w + n) (omega arith)) ∙ add-mul (k * w) w p in
@@ -25,6 +25,6 @@ reciprocal-divides p w i some small =
     let whole : p / w * w + p % w ≡ p = div-add-mod' p w in
     let more : (p / w + 1) * w ≡ p / w * w + 1 * w = add-mul (p / w) 1 w in
     let rest : p % w < w = mod-lt p some in
-    let near : (p / w + 1) * w ≡ p + (w - p % w) = omega arith in
+    let over : (p / w + 1) * w ≡ p + (w - p % w) = omega arith in
     let little : i * (w - p % w) ≤ i * w = mul-le-mul-left i (omega arith) in
-    near-quotient p w (p / w + 1) (w - p % w) i (i / w) (i % w) near (omega arith) (sym (div-add-mod' i w)) (mod-lt i some)
+    quotient-by-product p w (p / w + 1) (w - p % w) i (i / w) (i % w) over (omega arith) (sym (div-add-mod' i w)) (mod-lt i some)

@@ -2,7 +2,7 @@
 ghost use mathlib.Core.Path.{_≡_};
 ghost use mathlib.Core.Bool.{true};
 ghost use Prim.Native.Nat.{_<_, _^_};
-ghost use lib.IntN.{pos, negℤ, _+ℤ_, _-ℤ_, _*ℤ_};
+ghost use lib.IntN.{natAbs, _+ℤ_, _-ℤ_, _*ℤ_};
 ghost use lib.Signed.{mag};
 ghost use Rattle.base.specs.Range.{fits32};
 ghost use Rattle.base.specs.Floor.{floorDiv};
@@ -76,4 +76,15 @@ pub fn with_sign(size: u64, minus: bool) -> i64
 {
     let n = size as i64;
     if minus { -n } else { n }
+}
+
+// A number without its sign.
+pub fn magnitude(number: i32) -> u64
+    ensures { λ r. ⌜ r ≡ natAbs number ⌝ }
+{
+    if number < 0 {
+        (-1 - number) as u64 + 1
+    } else {
+        number as u64
+    }
 }

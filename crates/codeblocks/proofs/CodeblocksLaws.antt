@@ -13,11 +13,11 @@ use lib.IntN.{ℤ, pos}
 use lib.ListN.{length, getD}
 use borrow.Author.Tests.{eq-eqb, ne-eqb}
 use Rattle.base.specs.Walk.{walk}
-use Rattle.base.proofs.Walks.{walk-flat, walk-holds}
-use Rattle.component.specs.Subbands.{Lies}
+use Rattle.base.proofs.WalkLaws.{walk-flat, walk-holds}
+use Rattle.component.specs.Subbands.{InSubband}
 use Rattle.exp_golomb.specs.Bits.{takeBit}
 use Rattle.exp_golomb.specs.declared.bits.Bit.the-variants.{Taken}
-use Rattle.exp_golomb.proofs.Moved.{stated-bit}
+use Rattle.exp_golomb.proofs.BitsLaws.{stated-bit}
 use Rattle.coefficients.specs.Reading.{Run, goesOn, stops, going}
 use Rattle.coefficients.specs.Values.{after}
 use Rattle.coefficients.specs.declared.reading.Progress.{Progress}
@@ -27,7 +27,7 @@ use Rattle.rectangles.proofs.AreasLaws.{rectangle-keeps, rectangle-length}
 use Rattle.codeblocks.specs.Codeblocks.{codeblockArea, onFlag, codeblockValues, codeblock, codeblocks}
 use Rattle.codeblocks.specs.Blocks.{countOf, blockArea, blockBefore, Counted, Placed, ClearBlocks}
 use Rattle.codeblocks.specs.declared.CodeblockGrid.{CodeblockGrid}
-use Rattle.codeblocks.proofs.BlockLaws.{value-lies, value-elsewhere}
+use Rattle.codeblocks.proofs.BlocksLaws.{value-lies, value-elsewhere}
 
 module _ (bytes : List ℕ) (end origin : ℕ) (scale : ℕ → ℕ) (b : CodeblockGrid) where
   abbrev block : ℕ → ℕ → Run → Run
@@ -103,7 +103,7 @@ module _ (bytes : List ℕ) (end origin : ℕ) (scale : ℕ → ℕ) (b : Codebl
         (walk-holds (λ t. Q (t .plane)) (λ m. block (m / b .across) (m % b .across)) 0 (countOf b) (λ m below. block-holds (m / b .across) (m % b .across) (each m (omega arith))) r here)
 
   -- no entry outside the subband changes, and no length
-  pub codeblocks-keep : Counted b → (j : ℕ) → ((row column : ℕ) → Lies (b .subband) row column → row * b .stride + column ≢ j) →
+  pub codeblocks-keep : Counted b → (j : ℕ) → ((row column : ℕ) → InSubband (b .subband) row column → row * b .stride + column ≢ j) →
       (r : Run) → getD (codeblocks bytes end origin scale b r .plane) j (pos 0) ≡ getD (r .plane) j (pos 0)
   unfolding codeblockValues
   codeblocks-keep counted j outside r =
@@ -118,7 +118,7 @@ module _ (bytes : List ℕ) (end origin : ℕ) (scale : ℕ → ℕ) (b : Codebl
 
 -- before any codeblock is begun, all entries that are to be read hold zeros where those of the subband do
 pub clear-blocks : (b : CodeblockGrid) (plane : List ℤ) → Placed b plane →
-    ((row column : ℕ) → Lies (b .subband) row column → getD plane (row * b .stride + column) (pos 0) ≡ pos 0) →
+    ((row column : ℕ) → InSubband (b .subband) row column → getD plane (row * b .stride + column) (pos 0) ≡ pos 0) →
     ClearBlocks b (record { begun = 0; values = 0 }) plane
 unfolding blockBefore
 clear-blocks b plane placed zeros =

@@ -9,8 +9,8 @@ use native.Mathlib.Omega.{arith}
 use lib.Dec.{eqb}
 use Rattle.exp_golomb.specs.Bits.{present, takeBit}
 use Rattle.exp_golomb.specs.declared.bits.Bit.the-variants.{Taken, Absent}
-use Rattle.exp_golomb.proofs.BitLaws.{present-below, take-past-stated, take-absent, taken}
-use Rattle.exp_golomb.proofs.Moved.{bit-begins, absent-past, stated-bit}
+use Rattle.exp_golomb.proofs.BitsLaws.{present-below, take-past-stated, take-absent, taken, absent-past, stated-bit}
+use Rattle.exp_golomb.proofs.BeginsLaws.{bit-begins}
 use Rattle.coefficients.specs.declared.reading.Cursor.{Cursor}
 use Rattle.codeblocks.specs.Blocks.{Flagged}
 
@@ -40,7 +40,7 @@ module _ (count : ℕ) (bytes : List ℕ) (c : Cursor) where
         single = λ e. (refl, refl);
         taken = λ several. absurd (several one);
         before-end = λ before. before;
-        near = λ e.
+        close-to-end = λ e.
             let z : _≡_ {A = ℕ} 0 1 = cc in
             absurd (omega arith);
         full = λ e. refl;
@@ -56,7 +56,7 @@ module _ (count : ℕ) (bytes : List ℕ) (c : Cursor) where
               let z : _≡_ {A = ℕ} 0 1 = cc in
               absurd (omega arith);
           before-end = λ before. before;
-          near = λ e. omega (arith, absent-past bytes (c .end) (c .stated) (c .bit) absent);
+          close-to-end = λ e. omega (arith, absent-past bytes (c .end) (c .stated) (c .bit) absent);
           full = λ stated.
               stated-bit bytes (c .end) _ (c .bit)
               (λ bit next t.
@@ -73,7 +73,7 @@ module _ (count : ℕ) (bytes : List ℕ) (c : Cursor) where
           single = λ one. absurd (several one);
           taken = λ many short whole end begins. (bit, bit-begins (c .stated) bytes (c .end) whole end begins (c .bit) bit next there, refl);
           before-end = λ before. taken-before bytes (c .end) (c .stated) (c .bit) bit next there before;
-          near = λ e.
+          close-to-end = λ e.
               let z : _≡_ {A = ℕ} 0 1 = cc in
               absurd (omega arith);
           full = λ e. refl;

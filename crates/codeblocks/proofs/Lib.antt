@@ -1,6 +1,6 @@
 -- The laws of codeblocks, for this crate and those above it.
 pub mod CodeblockTiling
-pub mod BlockLaws
+pub mod BlocksLaws
 pub mod CodeblocksLaws
 pub mod FlagLaws
 pub mod RestLaws

@@ -9,10 +9,10 @@ use native.Mathlib.Omega.{arith}
 use lib.Dec.{eqb}
 use lib.IntN.{ℤ}
 use Rattle.base.specs.Walk.{walk}
-use Rattle.base.proofs.Walks.{walk-first, walk-past}
+use Rattle.base.proofs.WalkLaws.{walk-first, walk-past}
 use Rattle.exp_golomb.specs.Bits.{takeBit}
 use Rattle.exp_golomb.specs.declared.bits.Bit.the-variants.{Taken}
-use Rattle.exp_golomb.proofs.Moved.{begins-itself}
+use Rattle.exp_golomb.proofs.BeginsLaws.{begins-itself}
 use Rattle.coefficients.specs.Reading.{Run, goesOn}
 use Rattle.coefficients.specs.Values.{after}
 use Rattle.coefficients.specs.declared.reading.Cursor.{Cursor}

@@ -11,7 +11,7 @@ use native.Mathlib.Omega.{arith}
 use lib.IntN.{ℤ}
 use Rattle.exp_golomb.specs.Begins.{Begins}
 use Rattle.coefficients.specs.Reading.{goesOn}
-use Rattle.coefficients.specs.Values.{after, NearEnd}
+use Rattle.coefficients.specs.Values.{after, CloseToEnd}
 use Rattle.coefficients.specs.declared.reading.Cursor.{Cursor}
 use Rattle.coefficients.specs.declared.reading.Portion.{Portion}
 use Rattle.coefficients.specs.declared.reading.Progress.{Progress}
@@ -24,7 +24,7 @@ use Rattle.codeblocks.specs.declared.PlacedCodeblock.{PlacedCodeblock}
 use Rattle.codeblocks.specs.declared.CodeblockGrid.{CodeblockGrid}
 use Rattle.codeblocks.specs.declared.Flag.{Flag}
 use Rattle.codeblocks.specs.declared.Position.{Position}
-use Rattle.codeblocks.proofs.BlockLaws.{areas-apart}
+use Rattle.codeblocks.proofs.BlocksLaws.{areas-apart}
 use Rattle.codeblocks.proofs.RestLaws.{atValue, rest-values, rest-single, rest-flagged}
 
 -- the codeblock begun last has no entry in common with a later one
@@ -123,16 +123,16 @@ module _ (bytes : List ℕ) (c : Cursor) (scale : ℕ → ℕ) (b : CodeblockGri
   -- the ways that a turn ends: a refusal, data that are short, and all codeblocks read
   module _ (at : Position) (progress : Progress) (plane : List ℤ) (sofar : Sofar at progress plane) where
     -- with what the answer says besides
-    ends : (short : Bool) → (short ≡ true → NearEnd bytes (c .end) progress) → (c .stated ≡ true → short ≡ false) →
+    ends : (short : Bool) → (short ≡ true → CloseToEnd bytes (c .end) progress) → (c .stated ≡ true → short ≡ false) →
         ((next : ℕ) → progress ≡ At next → short ≡ false → (countOf b ≤ at .begun) × (sizeOf (areaBefore b (at .begun)) ≤ at .values)) →
         BlocksRead bytes c scale b from plane₀ (record { position = at; progress = progress; short = short }) plane
-    ends short near full over =
+    ends short close-to-end full over =
         record {
           values = sofar .values;
           most = sofar .most;
           clear = sofar .clear;
           before-end = sofar .before-end;
-          near = near;
+          close-to-end = close-to-end;
           full = full;
           over = over;
         }
@@ -151,11 +151,11 @@ module _ (bytes : List ℕ) (c : Cursor) (scale : ℕ → ℕ) (b : CodeblockGri
         absurd (omega arith))
 
     module _ (bit : ℕ) (on : progress ≡ At bit) where
-      pub ends-short : (next : Cursor) (short : Bool) → Follows c next → short ≡ true → (next .stated ≡ true → short ≡ false) → NearEnd bytes (next .end) (At bit) →
+      pub ends-short : (next : Cursor) (short : Bool) → Follows c next → short ≡ true → (next .stated ≡ true → short ≡ false) → CloseToEnd bytes (next .end) (At bit) →
           BlocksRead bytes c scale b from plane₀ (record { position = at; progress = At bit; short = true }) plane
-      ends-short next short same there full near =
+      ends-short next short same there full close-to-end =
           rw (← on)
-          (ends true (λ e. rw (on, ← same .end-same) near) (λ stated. sym there ∙ full (same .stated-same ∙ stated)) (λ k e f. absurd (never (sym f))))
+          (ends true (λ e. rw (on, ← same .end-same) close-to-end) (λ stated. sym there ∙ full (same .stated-same ∙ stated)) (λ k e f. absurd (never (sym f))))
 
       pub ends-over : countOf b ≤ at .begun → sizeOf (areaBefore b (at .begun)) ≤ at .values →
           BlocksRead bytes c scale b from plane₀ (record { position = at; progress = At bit; short = false }) plane

@@ -13,7 +13,7 @@ use Rattle.exp_golomb.specs.Begins.{Begins}
 use Rattle.exp_golomb.specs.Bits.{takeBit}
 use Rattle.exp_golomb.specs.declared.bits.Bit.the-variants.{Taken}
 use Rattle.coefficients.specs.Reading.{Run, goesOn}
-use Rattle.coefficients.specs.Values.{after, NearEnd}
+use Rattle.coefficients.specs.Values.{after, CloseToEnd}
 use Rattle.coefficients.specs.declared.reading.Cursor.{Cursor}
 use Rattle.coefficients.specs.declared.reading.Progress.the-variants.{At}
 use Rattle.coefficients.specs.declared.reading.Rectangle.{Rectangle}
@@ -76,7 +76,7 @@ pub record Flagged (count : ℕ) (bytes : List ℕ) (c : Cursor) (r : Flag) : Ty
   pub taken : count ≢ 1 → r .short ≡ false → (whole : List ℕ) (end : ℕ) → Begins (c .stated) bytes (c .end) whole end →
       (bit : ℕ) × (takeBit whole end true (c .bit) ≡ Taken bit (r .bit)) × (r .skipped ≡ eqb bit 1)
   pub before-end : c .bit ≤ c .end → r .bit ≤ c .end
-  pub near : r .short ≡ true → min (c .end) (8 * length bytes) ≤ c .bit + 63
+  pub close-to-end : r .short ≡ true → min (c .end) (8 * length bytes) ≤ c .bit + 63
   pub full : c .stated ≡ true → r .short ≡ false
 
 -- Codeblocks were read into a plane from a position on, up to the one reached, whatever data begin with those at hand.
@@ -86,7 +86,7 @@ pub record BlocksRead (bytes : List ℕ) (c : Cursor) (scale : ℕ → ℕ) (b :
   pub most : r .position .begun ≤ countOf b
   pub clear : ClearBlocks b (r .position) last
   pub before-end : (next : ℕ) → r .progress ≡ At next → next ≤ c .end
-  pub near : r .short ≡ true → NearEnd bytes (c .end) (r .progress)
+  pub close-to-end : r .short ≡ true → CloseToEnd bytes (c .end) (r .progress)
   pub full : c .stated ≡ true → r .short ≡ false
   pub over : (next : ℕ) → r .progress ≡ At next → r .short ≡ false →
       (countOf b ≤ r .position .begun) × (sizeOf (areaBefore b (r .position .begun)) ≤ r .position .values)

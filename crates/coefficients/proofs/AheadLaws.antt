@@ -21,7 +21,7 @@ use Rattle.exp_golomb.specs.declared.codes.Number.the-variants.{Read}
 use Rattle.lookups.specs.Lookups.{Ahead, Describes}
 use Rattle.lookups.specs.declared.Lookup.{Lookup}
 use Rattle.lookups.proofs.WindowLaws.{ahead-present, ahead-ones, ahead-shift}
-use Rattle.lookups.proofs.LookupLaws.{zero-signed, lookup-present, lookup-ones, lookup-number}
+use Rattle.lookups.proofs.LookupsLaws.{zero-signed, lookup-present, lookup-ones, lookup-number}
 use Rattle.coefficients.specs.Reading.{Run, goesOn}
 use Rattle.coefficients.specs.Scaling.{smallValue, Small}
 use Rattle.coefficients.specs.Values.{indexOf, entry, entries, Clear, Ready, ReadsAhead}
@@ -35,7 +35,7 @@ zero-set plane k e = ap (set plane k) (sym e) ∙ set-getD plane k (pos 0)
 
 small-zero : (scale : ℕ → ℕ) (small : List ℤ) → Small scale small → smallValue scale 0 ≡ pos 0
 unfolding smallValue withSign
-small-zero scale small held = rw (held .none)
+small-zero scale small known = rw (known .none)
 
 -- what is told of a lookup's first code: x where it is a zero, else y
 abbrev pub OfFirst : Lookup → ℕ → ℕ → ℕ → Type 0
@@ -48,7 +48,7 @@ first-most l told x y most is low high =
       | no some ↦ rw (is .0 some) low
     ]
 
-module _ (bytes : List ℕ) (end origin : ℕ) (scale : ℕ → ℕ) (small : List ℤ) (held : Small scale small) (index : ℕ → ℕ) where
+module _ (bytes : List ℕ) (end origin : ℕ) (scale : ℕ → ℕ) (small : List ℤ) (known : Small scale small) (index : ℕ → ℕ) where
   abbrev from : ℕ → ℕ → Run → Run
   from = entries bytes end origin scale index
 
@@ -58,7 +58,7 @@ module _ (bytes : List ℕ) (end origin : ℕ) (scale : ℕ → ℕ) (small : Li
   unfolding entry smallValue
   small-read i at next k plane few number =
       value-read bytes end origin scale (λ v l. set l (index i) v) at plane (signed bytes end true at) (k / 2) (eqb (k % 2) 1) next refl number
-      ∙ store-fits origin (smallValue scale k) (λ v l. set l (index i) v) next plane (held .fits k few)
+      ∙ store-fits origin (smallValue scale k) (λ v l. set l (index i) v) next plane (known .fits k few)
 
   -- as many zeros as there are ones, into zeros
   pub entries-zeros : (i at : ℕ) (plane : List ℤ) (n : ℕ) → ((j : ℕ) → j < n → present bytes end (at + j) ≡ true) → ((j : ℕ) → j < n → bitAt bytes (at + j) ≡ 1) →
@@ -70,7 +70,7 @@ module _ (bytes : List ℕ) (end origin : ℕ) (scale : ℕ → ℕ) (small : Li
       let number : signed bytes end true (at + n) ≡ Read 0 false (at + n + 1) = zero-signed bytes end (at + n) (there n (omega arith)) (one n (omega arith)) in
       let step : entry bytes end origin scale index (i + n) (goesOn (at + n) plane) ≡ goesOn (at + n + 1) plane =
       small-read (i + n) (at + n) (at + n + 1) 0 plane (omega arith) number
-      ∙ ap (goesOn (at + n + 1)) (ap (set plane (index (i + n))) (small-zero scale small held) ∙ zero-set plane (index (i + n)) (clear .each (i + n) (omega arith) (omega arith))) in
+      ∙ ap (goesOn (at + n + 1)) (ap (set plane (index (i + n))) (small-zero scale small known) ∙ zero-set plane (index (i + n)) (clear .each (i + n) (omega arith) (omega arith))) in
       let next : at + n + 1 ≡ at + (n + 1) = omega arith in
       rw (← add-one n)
       (entries-more bytes end origin scale index i n (goesOn at plane) (goesOn (at + n) plane) (goesOn (at + n + 1) plane) sofar step ∙ ap (λ (k : ℕ). goesOn k plane) next)
@@ -86,11 +86,11 @@ module _ (bytes : List ℕ) (end origin : ℕ) (scale : ℕ → ℕ) (small : Li
         from i (l .count) (goesOn at plane) ≡ goesOn (at + l .bits) (set plane (index (i + l .zeros)) (getD small (l .value) (pos 0)))
     lookup-step room fits clear =
         let started = lookup-cut (l .zeros) (omega arith) (record { each = λ k h g. clear .each k h (omega arith) }) in
-        let value-is : getD small (l .value) (pos 0) ≡ smallValue scale (l .value) = held .each (l .value) (right .value-most) in
+        let value-is : getD small (l .value) (pos 0) ≡ smallValue scale (l .value) = known .each (l .value) (right .value-most) in
         elim (ℕ-discrete (l .count) (l .zeros)) [
           | yes same ↦
               let none = right .none same in
-              let zero-is : getD small (l .value) (pos 0) ≡ pos 0 = value-is ∙ ap (smallValue scale) (none .0) ∙ small-zero scale small held in
+              let zero-is : getD small (l .value) (pos 0) ≡ pos 0 = value-is ∙ ap (smallValue scale) (none .0) ∙ small-zero scale small known in
               rw (same, none .1, zero-is)
               (started ∙ ap (goesOn (at + l .zeros)) (sym (zero-set plane (index (i + l .zeros)) (clear .each (i + l .zeros) (omega arith) fits))))
           | no other ↦
@@ -111,7 +111,7 @@ module _ (bytes : List ℕ) (end origin : ℕ) (scale : ℕ → ℕ) (small : Li
               let here : i + l .zeros ≡ i = omega arith in
               rw (value-is .1 none, bits-is .1 none) (rw (one, here) at (lookup-step room (omega arith) clear))
           | no zeros ↦
-              let zero-is : getD small 0 (pos 0) ≡ pos 0 = held .each 0 (omega arith) ∙ small-zero scale small held in
+              let zero-is : getD small 0 (pos 0) ≡ pos 0 = known .each 0 (omega arith) ∙ small-zero scale small known in
               rw (value-is .0 zeros, bits-is .0 zeros, zero-is)
               (lookup-cut 1 (omega (arith, zeros)) (record { each = λ k h g. clear .each k h (omega arith) })
               ∙ ap (goesOn (at + 1)) (sym (zero-set plane (index i) (clear .each i (omega arith) fits))))
@@ -137,14 +137,14 @@ left-more w bits rest b few short left bytes end at ahead =
     let less : 56 - (bits + b) ≡ 56 - bits - b = omega arith in
     rw (next, less) (ahead-shift bytes end rest (at + bits) (56 - bits) (left bytes end at ahead) b (omega arith))
 
--- values by no lookup, by some ones at once, and, after others, by one lookup more, by its zeros alone, as many as there is room for, and by
--- its first code alone
+-- values by no lookup, by some ones at once, and, after others, by one lookup more, by its zeros alone, as many as there is room for, and by its
+-- first code alone
 module _ (w : ℕ) (small : List ℤ) (index : ℕ → ℕ) (grows : (i j : ℕ) → i < j → index i < index j) (i room : ℕ) (start : List ℤ) (clear : Clear index i room start) where
   pub ahead-none : (count : ℕ) → count ≡ 0 → ReadsAhead w small index i start (record { count = count; bits = 0 }) start
   ahead-none count none =
       record {
         few = omega arith;
-        values = λ bytes end origin scale at held ahead.
+        values = λ bytes end origin scale at known ahead.
             rw none (entries-none bytes end origin scale index i (goesOn at start) ∙ ap (λ (k : ℕ). goesOn k start) (sym (add-zero at)));
       }
 
@@ -152,8 +152,8 @@ module _ (w : ℕ) (small : List ℤ) (index : ℕ → ℕ) (grows : (i j : ℕ)
   ahead-zeros m few ones fits =
       record {
         few = few;
-        values = λ bytes end origin scale at held ahead.
-            entries-zeros bytes end origin scale small held index i at start m (λ j h. ahead-present bytes end w at 56 ahead j (omega arith))
+        values = λ bytes end origin scale at known ahead.
+            entries-zeros bytes end origin scale small known index i at start m (λ j h. ahead-present bytes end w at 56 ahead j (omega arith))
             (ahead-ones bytes end w at 56 ahead m few ones) (record { each = λ k h g. clear .each k h (omega arith) });
       }
 
@@ -161,10 +161,10 @@ module _ (w : ℕ) (small : List ℤ) (index : ℕ → ℕ) (grows : (i j : ℕ)
       (left : Left w bits rest) (right : Describes (rest / 2 ^ 56) l) where
     -- later entries are as they were
     still-clear : (bytes : List ℕ) (end origin : ℕ) (scale : ℕ → ℕ) (at : ℕ) → Small scale small → Ahead bytes end w at 56 → Clear index (i + x) room plane
-    still-clear bytes end origin scale at held ahead =
+    still-clear bytes end origin scale at known ahead =
         record {
           each = λ k h g.
-              ap (λ (r : Run). getD (r .plane) (index k) (pos 0)) (sym (sofar .values bytes end origin scale at held ahead))
+              ap (λ (r : Run). getD (r .plane) (index k) (pos 0)) (sym (sofar .values bytes end origin scale at known ahead))
               ∙ entries-keep bytes end origin scale index i x (index k) (λ j from below e. omega (arith, grows j k (omega arith), e)) (goesOn at start)
               ∙ clear .each k (omega arith) g;
         }
@@ -177,36 +177,36 @@ module _ (w : ℕ) (small : List ℤ) (index : ℕ → ℕ) (grows : (i j : ℕ)
     ahead-adds m b last is short step =
         record {
           few = omega arith;
-          values = λ bytes end origin scale at held ahead.
+          values = λ bytes end origin scale at known ahead.
               rw (is, ← add-assoc at bits b)
               (entries-adds bytes end origin scale index i x m (goesOn at start)
-              ∙ ap (entries bytes end origin scale index (i + x) m) (sofar .values bytes end origin scale at held ahead)
-              ∙ step bytes end origin scale at held ahead (left bytes end at ahead));
+              ∙ ap (entries bytes end origin scale index (i + x) m) (sofar .values bytes end origin scale at known ahead)
+              ∙ step bytes end origin scale at known ahead (left bytes end at ahead));
         }
 
     pub ahead-more : count ≡ x + l .count → i + x + l .zeros < room →
         ReadsAhead w small index i start (record { count = count; bits = bits + l .bits }) (set plane (index (i + x + l .zeros)) (getD small (l .value) (pos 0)))
     ahead-more is fits =
         ahead-adds (l .count) (l .bits) _ is (right .bits-most)
-        (λ bytes end origin scale at held ahead rests.
-        lookup-step bytes end origin scale small held index (at + bits) rest (56 - bits) (rest / 2 ^ 56) rests (omega arith) refl l right (i + x) plane
-        room fits (still-clear bytes end origin scale at held ahead))
+        (λ bytes end origin scale at known ahead rests.
+        lookup-step bytes end origin scale small known index (at + bits) rest (56 - bits) (rest / 2 ^ 56) rests (omega arith) refl l right (i + x) plane
+        room fits (still-clear bytes end origin scale at known ahead))
 
     pub ahead-cut : (m : ℕ) → count ≡ x + m → m ≤ l .zeros → i + x + m ≤ room → ReadsAhead w small index i start (record { count = count; bits = bits + m }) plane
     ahead-cut m is short fits =
         ahead-adds m m plane is (omega (arith, right .zeros-most))
-        (λ bytes end origin scale at held ahead rests.
-        let still = still-clear bytes end origin scale at held ahead in
-        lookup-cut bytes end origin scale small held index (at + bits) rest (56 - bits) (rest / 2 ^ 56) rests (omega arith) refl l right (i + x) plane
+        (λ bytes end origin scale at known ahead rests.
+        let still = still-clear bytes end origin scale at known ahead in
+        lookup-cut bytes end origin scale small known index (at + bits) rest (56 - bits) (rest / 2 ^ 56) rests (omega arith) refl l right (i + x) plane
         m short (record { each = λ k h g. still .each k h (omega arith) }))
 
     pub ahead-code : (value b : ℕ) → OfFirst l value 0 (l .value) → OfFirst l b 1 (l .bits) → b ≢ 0 → count ≡ x + 1 → i + x < room →
         ReadsAhead w small index i start (record { count = count; bits = bits + b }) (set plane (index (i + x)) (getD small value (pos 0)))
     ahead-code value b value-is bits-is some is fits =
         ahead-adds 1 b _ is (first-most l b 1 (l .bits) 8 bits-is (omega arith) (right .bits-most))
-        (λ bytes end origin scale at held ahead rests.
-        code-step bytes end origin scale small held index (at + bits) rest (56 - bits) (rest / 2 ^ 56) rests (omega arith) refl l right (i + x) plane
-        value b room value-is bits-is some fits (still-clear bytes end origin scale at held ahead))
+        (λ bytes end origin scale at known ahead rests.
+        code-step bytes end origin scale small known index (at + bits) rest (56 - bits) (rest / 2 ^ 56) rests (omega arith) refl l right (i + x) plane
+        value b room value-is bits-is some fits (still-clear bytes end origin scale at known ahead))
 
 -- What was taken of a window: the values of a layout from one on, up to value i, by so many bits; what is left of it; and the plane.
 pub record Taken (w : ℕ) (small : List ℤ) (l : Layout) (from : ℕ) (start : List ℤ) (rest i bits : ℕ) (plane : List ℤ) : Type 0 where

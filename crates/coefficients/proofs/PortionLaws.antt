@@ -13,8 +13,9 @@ use Rattle.exp_golomb.specs.Begins.{Begins}
 use Rattle.exp_golomb.specs.Codes.{statusOf, nextOf, signed}
 use Rattle.exp_golomb.specs.declared.codes.Number.{Number}
 use Rattle.exp_golomb.specs.declared.codes.Number.the-variants.{Read, Missing, TooLong}
-use Rattle.exp_golomb.proofs.Extent.{signed-before}
-use Rattle.exp_golomb.proofs.Moved.{signed-begins, signed-short, signed-whole, begins-itself}
+use Rattle.exp_golomb.proofs.Extent.{signed-before, signed-short}
+use Rattle.exp_golomb.proofs.Moved.{signed-whole}
+use Rattle.exp_golomb.proofs.BeginsLaws.{signed-begins, begins-itself}
 use Rattle.lookups.specs.Lookups.{Ahead}
 use Rattle.lookups.proofs.WindowLaws.{ahead-begins}
 use Rattle.coefficients.specs.Reading.{Run, goesOn, store}
@@ -90,9 +91,9 @@ module _ (bytes : List ℕ) (c : Cursor) (scale index : ℕ → ℕ) (i : ℕ) (
             ∙ sym stored;
         before-end = λ bit on.
             let there : bit ≡ next = store-next (c .origin) (withSign (scale size) minus) (λ v l. set l (index i) v) next plane progress last bit stored on in
-            let near : nextOf (Read size minus next) ≤ c .end = rw read at (number-before bytes c number is inside) in
+            let close-to-end : nextOf (Read size minus next) ≤ c .end = rw read at (number-before bytes c number is inside) in
             omega arith;
-        near = λ e. true-never (sym e);
+        close-to-end = λ e. true-never (sym e);
         full = λ e. refl;
       }
 
@@ -106,7 +107,7 @@ module _ (bytes : List ℕ) (c : Cursor) (scale index : ℕ → ℕ) (i : ℕ) (
             (sym (signed-begins (c .stated) bytes (c .end) whole end begins (c .bit) (TooLong next) (sym is ∙ read) tt))
             (λ size minus n e. let z : _≡_ {A = ℕ} 0 1 = cc in omega arith);
         before-end = λ bit on. refused-never (Refused 7 (c .origin + next)) 7 (c .origin + next) bit refl on;
-        near = λ e. true-never (sym e);
+        close-to-end = λ e. true-never (sym e);
         full = λ e. refl;
       }
 
@@ -121,7 +122,7 @@ module _ (bytes : List ℕ) (c : Cursor) (scale index : ℕ → ℕ) (i : ℕ) (
       record {
         values = λ whole end begins. entries-none whole end (c .origin) scale index i (goesOn (c .bit) plane);
         before-end = λ bit on. let here : c .bit ≡ bit = cc in omega arith;
-        near = λ e. signed-short bytes (c .end) (c .stated) (c .bit) next (sym is ∙ read);
+        close-to-end = λ e. signed-short bytes (c .end) (c .stated) (c .bit) next (sym is ∙ read);
         full = λ e. absurd (missing-never next read e);
       }
 
@@ -136,17 +137,17 @@ module _ (bytes : List ℕ) (c : Cursor) (scale index : ℕ → ℕ) (i : ℕ) (
       by (TooLong next) e = portion-long next e
 
 -- values that were read at once by the bits ahead
-module _ (bytes : List ℕ) (c : Cursor) (scale index : ℕ → ℕ) (i w : ℕ) (small plane : List ℤ) (r : Batch) (last : List ℤ) (held : Small scale small) (ahead : Ahead bytes (c .end) w (c .bit) 56)
+module _ (bytes : List ℕ) (c : Cursor) (scale index : ℕ → ℕ) (i w : ℕ) (small plane : List ℤ) (r : Batch) (last : List ℤ) (known : Small scale small) (ahead : Ahead bytes (c .end) w (c .bit) 56)
     (reads : ReadsAhead w small index i plane r last) where
   pub portion-ahead : Reads bytes c scale index i plane (record { count = r .count; progress = At (c .bit + r .bits); short = false }) last
   portion-ahead =
       record {
         values = λ whole end begins.
-            reads .values whole end (c .origin) scale (c .bit) held (ahead-begins (c .stated) bytes (c .end) whole end w (c .bit) 56 begins (omega arith) ahead);
+            reads .values whole end (c .origin) scale (c .bit) known (ahead-begins (c .stated) bytes (c .end) whole end w (c .bit) 56 begins (omega arith) ahead);
         before-end = λ next on.
             let there : c .bit + r .bits ≡ next = cc in
             omega (arith, ahead .inside, reads .few);
-        near = λ e. true-never (sym e);
+        close-to-end = λ e. true-never (sym e);
         full = λ e. refl;
       }
 
@@ -154,7 +155,7 @@ module _ (bytes : List ℕ) (c : Cursor) (scale index : ℕ → ℕ) (i w : ℕ)
   pub none-ahead : r .count ≡ 0 → last ≡ plane
   none-ahead none =
       ap (λ (t : Run). t .plane)
-      (sym (rw none at (reads .values bytes (c .end) (c .origin) scale (c .bit) held ahead)) ∙ entries-none bytes (c .end) (c .origin) scale index i (goesOn (c .bit) plane))
+      (sym (rw none at (reads .values bytes (c .end) (c .origin) scale (c .bit) known ahead)) ∙ entries-none bytes (c .end) (c .origin) scale index i (goesOn (c .bit) plane))
 
 -- A cursor that has moved on in the same data.
 pub record Follows (c₀ c : Cursor) : Type 0 where
@@ -191,7 +192,7 @@ module _ (bytes : List ℕ) (c₀ : Cursor) (scale index : ℕ → ℕ) (i₀ : 
         record {
           values = sofar-adds;
           before-end = λ bit on. rw (follows .end-same) at (reads .before-end bit on);
-          near = λ e. rw (follows .end-same) at (reads .near (told e));
+          close-to-end = λ e. rw (follows .end-same) at (reads .close-to-end (told e));
           full = full;
         }
 
@@ -200,7 +201,7 @@ module _ (bytes : List ℕ) (c₀ : Cursor) (scale index : ℕ → ℕ) (i₀ : 
       record {
         values = sofar;
         before-end = λ next on. let there : bit ≡ next = cc in omega arith;
-        near = λ e. true-never (sym e);
+        close-to-end = λ e. true-never (sym e);
         full = λ e. refl;
       }
 

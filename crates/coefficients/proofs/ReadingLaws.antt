@@ -11,7 +11,7 @@ use lib.Seq.{getD-set-other}
 use Rattle.base.specs.Range.{fits32}
 use Rattle.base.specs.Sign.{withSign}
 use Rattle.base.specs.Walk.{walk}
-use Rattle.base.proofs.Walks.{walk-stays}
+use Rattle.base.proofs.WalkLaws.{walk-stays}
 use Rattle.exp_golomb.specs.Codes.{statusOf, nextOf, signed}
 use Rattle.exp_golomb.specs.declared.codes.Number.{Number}
 use Rattle.exp_golomb.specs.declared.codes.Number.the-variants.{Read, Missing, TooLong}

@@ -12,7 +12,8 @@ use lib.Dec.{eqb}
 use lib.IntN.{pos, negℤ}
 use Rattle.base.specs.Range.{fits32}
 use Rattle.base.specs.Sign.{withSign}
-use Rattle.base.proofs.Ranges.{below-fits32, mag-minus}
+use Rattle.base.proofs.RangeLaws.{below-fits32}
+use Rattle.base.proofs.Integers.{mag-minus}
 use Rattle.coefficients.specs.Quantiser.{scaled}
 use Rattle.coefficients.specs.Scaling.{scaleOf, smallFit, smallValue}
 use Rattle.coefficients.specs.declared.quantiser.Quantiser.{Quantiser}

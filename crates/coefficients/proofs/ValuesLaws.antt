@@ -9,7 +9,7 @@ use native.Mathlib.Omega.{arith}
 use lib.IntN.{pos}
 use lib.ListN.{length, getD, set}
 use Rattle.base.specs.Walk.{walk}
-use Rattle.base.proofs.Walks.{walk-none, walk-more, walk-split}
+use Rattle.base.proofs.WalkLaws.{walk-none, walk-more, walk-split}
 use Rattle.coefficients.specs.Reading.{Run}
 use Rattle.coefficients.specs.Values.{indexOf, entry, entries}
 use Rattle.coefficients.specs.declared.values.Layout.{Layout}

@@ -62,9 +62,9 @@ pub record Sound (c : Cursor) : Type 0 where
   pub small : c .origin + c .end < 2 ^ 63
 
 -- Reading goes on less than 64 bits before the end of the data.
-abbrev pub NearEnd : List ℕ → ℕ → Progress → Type 0
-NearEnd bytes end (At next) = min end (8 * length bytes) ≤ next + 63
-NearEnd bytes end (Refused status bit) = ⊥
+abbrev pub CloseToEnd : List ℕ → ℕ → Progress → Type 0
+CloseToEnd bytes end (At next) = min end (8 * length bytes) ≤ next + 63
+CloseToEnd bytes end (Refused status bit) = ⊥
 
 -- What follows where no number was read: its refusal, or, where a bit is missing, that it is not all there.
 unfoldable pub notRead : Number → Cursor → Portion
@@ -78,7 +78,7 @@ pub record Reads (bytes : List ℕ) (c : Cursor) (scale index : ℕ → ℕ) (i 
   pub values : (whole : List ℕ) (end : ℕ) → Begins (c .stated) bytes (c .end) whole end →
       entries whole end (c .origin) scale index i (r .count) (goesOn (c .bit) plane) ≡ after (r .progress) last
   pub before-end : (next : ℕ) → r .progress ≡ At next → next ≤ c .end
-  pub near : r .short ≡ true → NearEnd bytes (c .end) (r .progress)
+  pub close-to-end : r .short ≡ true → CloseToEnd bytes (c .end) (r .progress)
   pub full : c .stated ≡ true → r .short ≡ false
 
 -- Values from value i on were read into a plane by the bits at the top of w, whatever data have them ahead, and whatever sizes become.

@@ -141,7 +141,7 @@ fn read_window(
     }
 }
 
-// Reads values by the bits of a window: the last four one by one; of more, all that are left, or 32, at once where they are zeros; others by
+// Reads values by the bits of a window: the last four code by code, all that are left, or 32 of them, at once where they are zeros, and others by
 // lookups. How many is free: whatever the count, they are the values that the bits begin with.
 fn read_batch(
     plane: &mut [i32],
@@ -180,7 +180,7 @@ fn read_batch(
     read_lookups(plane, layout, from, window, table, small)
 }
 
-// Reads values by the bits of a window where 63 or more are left: 32 at once where they are zeros, others by lookups.
+// Reads values by the bits of a window where the layout's end is far: 32 at once where they are zeros, others by lookups.
 fn read_many(
     plane: &mut [i32],
     layout: Layout,

@@ -1,12 +1,11 @@
 -- Laws of a size divided into parts: where they start and end, and that each position lies in exactly one of them.
 -- Assumes nothing.
 use mathlib.Core.Path.{_≡_, ap}
-use Prim.Native.Nat.{ℕ, zero, suc, _*_, _/_, _≤_, _<_}
+use Prim.Native.Nat.{ℕ, zero, suc, _*_, _≤_, _<_}
 use native.Mathlib.Decide.{decLt}
-use native.Mathlib.Nat.{mul-le-mul-left, mul-zero, zero-div, mul-div-cancel, div-le-self, div-mul-le-self, le-div-iff-mul-le, le-trans}
+use native.Mathlib.Nat.{mul-le-mul-left, mul-zero, zero-div, mul-div-cancel, div-mul-le-self, le-div-iff-mul-le, le-trans}
 use native.Mathlib.Omega.{arith}
 use Rattle.component.specs.Partition.{partStart}
-use Rattle.component.specs.Reciprocal.{reciprocalOf}
 
 -- a size divided into so many parts
 module _ (size count : ℕ) where
@@ -30,11 +29,6 @@ module _ (size count : ℕ) where
     -- each ends no later than all
     pub part-end-most : (x : ℕ) → x < count → partStart size count (suc x) ≤ size
     part-end-most x h = rw part-start-all at (part-start-grows (suc x) count h)
-
--- the reciprocal of a count has 33 bits at most
-pub reciprocal-small : (count : ℕ) → reciprocalOf count ≤ 4294967297
-unfolding reciprocalOf
-reciprocal-small count = omega (arith, div-le-self 4294967296 count)
 
 -- exactly one step below n of a sequence has the position
 pub record ExactlyOneStep (f : ℕ → ℕ) (n position : ℕ) : Type 0 where

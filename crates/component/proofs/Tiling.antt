@@ -2,21 +2,21 @@
 -- Assumes nothing.
 use mathlib.Core.Path.{_≡_, refl, sym, subst}
 use mathlib.Core.Logic.{_≢_}
-use Prim.Native.Nat.{ℕ, zero, suc, _+_, _-_, _*_, _/_, _%_, _≤_, _<_}
+use Prim.Native.Nat.{ℕ, zero, suc, _+_, _*_, _/_, _%_, _≤_, _<_}
 use native.Mathlib.Decide.{decLt}
 use native.Mathlib.Omega.{arith}
 use Rattle.component.specs.Sizes.{paddedSize, bandSize, sizeAt}
-use Rattle.component.specs.Subbands.{subbandCount, subbandLevel, orientation, detailOf, leftOf, topOf, subbandAt, Lies}
+use Rattle.component.specs.Subbands.{subbandCount, subbandLevel, orientationOf, detailOf, leftOf, topOf, subbandAt, InSubband}
 use Rattle.component.specs.declared.subbands.Subband.{Subband}
-use Rattle.component.proofs.SizeLaws.{sizeAt-padded, band-sizeAt}
-use Rattle.component.proofs.SubbandLaws.{detail}
+use Rattle.component.proofs.SizesLaws.{sizeAt-padded, band-sizeAt}
+use Rattle.component.proofs.SubbandsLaws.{detail}
 
 -- exactly one of the subbands below a count has the entry
 pub record ExactlyOne (subband : ℕ → Subband) (count row column : ℕ) : Type 0 where
   pub index : ℕ
   pub counted : index < count
-  pub lies : Lies (subband index) row column
-  pub alone : (j : ℕ) → j < count → Lies (subband j) row column → j ≡ index
+  pub lies : InSubband (subband index) row column
+  pub alone : (j : ℕ) → j < count → InSubband (subband j) row column → j ≡ index
 
 -- one of the three subbands of level n + 1
 three : (P : ℕ → Type 0) (n j : ℕ) → (j < 1 + 3 * n → ⊥) → j < 1 + 3 * suc n → P (3 * n + 1) → P (3 * n + 2) → P (3 * n + 3) → P j
@@ -52,9 +52,9 @@ module _ (depth width height : ℕ) where
   grows n = (refl, refl)
 
   -- the four kinds of subband, each with its rectangle
-  ll : S 0 ≡ record { level = 0; left = 0; top = 0; width = W 0; height = H 0 }
-  unfolding S W H sizeAt subbandAt subbandLevel orientation leftOf topOf
-  ll = refl
+  at-LL : S 0 ≡ record { level = 0; left = 0; top = 0; width = W 0; height = H 0 }
+  unfolding S W H sizeAt subbandAt subbandLevel orientationOf leftOf topOf
+  at-LL = refl
 
   module _ (m : ℕ) (deep : m ≤ depth) where
     -- a subband of level m + 1, from its remainder by 3
@@ -64,36 +64,36 @@ module _ (depth width height : ℕ) where
     at-level k r level positive rest =
         rw (level, detail k positive, rest, band-sizeAt depth width m deep, band-sizeAt depth height m deep)
 
-    hl : S (3 * m + 1) ≡ record { level = suc m; left = W m; top = 0; width = W m; height = H m }
+    at-HL : S (3 * m + 1) ≡ record { level = suc m; left = W m; top = 0; width = W m; height = H m }
     unfolding leftOf topOf detailOf
-    hl = at-level (3 * m + 1) 1 (omega arith) (omega arith) (omega arith)
+    at-HL = at-level (3 * m + 1) 1 (omega arith) (omega arith) (omega arith)
 
-    lh : S (3 * m + 2) ≡ record { level = suc m; left = 0; top = H m; width = W m; height = H m }
+    at-LH : S (3 * m + 2) ≡ record { level = suc m; left = 0; top = H m; width = W m; height = H m }
     unfolding leftOf topOf detailOf
-    lh = at-level (3 * m + 2) 2 (omega arith) (omega arith) (omega arith)
+    at-LH = at-level (3 * m + 2) 2 (omega arith) (omega arith) (omega arith)
 
-    hh : S (3 * m + 3) ≡ record { level = suc m; left = W m; top = H m; width = W m; height = H m }
+    at-HH : S (3 * m + 3) ≡ record { level = suc m; left = W m; top = H m; width = W m; height = H m }
     unfolding leftOf topOf detailOf
-    hh = at-level (3 * m + 3) 0 (omega arith) (omega arith) (omega arith)
+    at-HH = at-level (3 * m + 3) 0 (omega arith) (omega arith) (omega arith)
 
   module _ (row column : ℕ) where
     abbrev In : ℕ → Type 0
-    In j = Lies (S j) row column
+    In j = InSubband (S j) row column
 
     -- an entry of the first subbands lies in the picture that they make up
     inner : (n j : ℕ) → n ≤ depth → j < 1 + 3 * n → In j → (row < H n) × (column < W n)
     inner zero j deep old lies =
         let e : j ≡ 0 = omega arith in
-        let here = rw ll at (subst In e lies) in
+        let here = rw at-LL at (subst In e lies) in
         omega (arith, here)
     inner (suc n) j deep old lies =
         elim (decLt j (1 + 3 * n)) [
           | yes below ↦ omega (arith, inner n j (omega arith) below lies, grows n)
           | no above ↦
               three (λ k. In k → (row < H (suc n)) × (column < W (suc n))) n j above old
-              (λ l. let here = rw (hl n (omega arith)) at l in omega (arith, here, grows n))
-              (λ l. let here = rw (lh n (omega arith)) at l in omega (arith, here, grows n))
-              (λ l. let here = rw (hh n (omega arith)) at l in omega (arith, here, grows n))
+              (λ l. let here = rw (at-HL n (omega arith)) at l in omega (arith, here, grows n))
+              (λ l. let here = rw (at-LH n (omega arith)) at l in omega (arith, here, grows n))
+              (λ l. let here = rw (at-HH n (omega arith)) at l in omega (arith, here, grows n))
               lies
         ]
 
@@ -109,9 +109,9 @@ module _ (depth width height : ℕ) where
                 | yes below ↦ one .alone j below l
                 | no above ↦
                     three (λ k. In k → k ≡ one .index) n j above h
-                    (λ q. let here = rw (hl n (omega arith)) at q in absurd (omega (arith, here)))
-                    (λ q. let here = rw (lh n (omega arith)) at q in absurd (omega (arith, here)))
-                    (λ q. let here = rw (hh n (omega arith)) at q in absurd (omega (arith, here)))
+                    (λ q. let here = rw (at-HL n (omega arith)) at q in absurd (omega (arith, here)))
+                    (λ q. let here = rw (at-LH n (omega arith)) at q in absurd (omega (arith, here)))
+                    (λ q. let here = rw (at-HH n (omega arith)) at q in absurd (omega (arith, here)))
                     l
               ];
         }
@@ -139,7 +139,7 @@ module _ (depth width height : ℕ) where
         record {
           index = 0;
           counted = omega arith;
-          lies = rw ll (record { below-top = omega arith; above-bottom = omega arith; right-of-left = omega arith; left-of-right = omega arith });
+          lies = rw at-LL (record { below-top = omega arith; above-bottom = omega arith; right-of-left = omega arith; left-of-right = omega arith });
           alone = λ j h l. omega arith;
         }
     one-of (suc n) deep rows columns =
@@ -150,24 +150,24 @@ module _ (depth width height : ℕ) where
                 | yes left ↦ old-one n deep upper left (one-of n shallow upper left)
                 | no right ↦
                     new-one n (3 * n + 1) deep (λ r c. right c) (omega arith)
-                    (rw (hl n shallow) (record { below-top = omega arith; above-bottom = omega arith; right-of-left = omega arith; left-of-right = omega (arith, grows n) }))
+                    (rw (at-HL n shallow) (record { below-top = omega arith; above-bottom = omega arith; right-of-left = omega arith; left-of-right = omega (arith, grows n) }))
                     (λ q. refl)
-                    (λ q. let here = rw (lh n shallow) at q in omega (arith, here))
-                    (λ q. let here = rw (hh n shallow) at q in omega (arith, here))
+                    (λ q. let here = rw (at-LH n shallow) at q in omega (arith, here))
+                    (λ q. let here = rw (at-HH n shallow) at q in omega (arith, here))
               ]
           | no lower ↦
               elim (decLt column (W n)) [
                 | yes left ↦
                     new-one n (3 * n + 2) deep (λ r c. lower r) (omega arith)
-                    (rw (lh n shallow) (record { below-top = omega arith; above-bottom = omega (arith, grows n); right-of-left = omega arith; left-of-right = omega arith }))
-                    (λ q. let here = rw (hl n shallow) at q in omega (arith, here))
+                    (rw (at-LH n shallow) (record { below-top = omega arith; above-bottom = omega (arith, grows n); right-of-left = omega arith; left-of-right = omega arith }))
+                    (λ q. let here = rw (at-HL n shallow) at q in omega (arith, here))
                     (λ q. refl)
-                    (λ q. let here = rw (hh n shallow) at q in omega (arith, here))
+                    (λ q. let here = rw (at-HH n shallow) at q in omega (arith, here))
                 | no right ↦
                     new-one n (3 * n + 3) deep (λ r c. right c) (omega arith)
-                    (rw (hh n shallow) (record { below-top = omega arith; above-bottom = omega (arith, grows n); right-of-left = omega arith; left-of-right = omega (arith, grows n) }))
-                    (λ q. let here = rw (hl n shallow) at q in omega (arith, here))
-                    (λ q. let here = rw (lh n shallow) at q in omega (arith, here))
+                    (rw (at-HH n shallow) (record { below-top = omega arith; above-bottom = omega (arith, grows n); right-of-left = omega arith; left-of-right = omega (arith, grows n) }))
+                    (λ q. let here = rw (at-HL n shallow) at q in omega (arith, here))
+                    (λ q. let here = rw (at-LH n shallow) at q in omega (arith, here))
                     (λ q. refl)
               ]
         ]

@@ -1,10 +1,12 @@
 -- Document 01, "What the decoder covers" and "Refusal numbers": the checks behind refusals 1 to 5.
 use Prim.Native.Nat.{ℕ, suc, _*_}
 use mathlib.Core.Bool.{Bool, true, false, not, cond, _&&_, _||_}
+use mathlib.Core.List.{List}
 use lib.Dec.{leb, eqb}
-use lib.ListN.{getD}
+use lib.IntN.{ℤ}
+use lib.ListN.{length, getD}
 use Rattle.base.specs.Every.{allBelow}
-use Rattle.component.specs.Sizes.{paddedSize}
+use Rattle.component.specs.Sizes.{paddedWidth, paddedHeight}
 use Rattle.component.specs.declared.parameters.Parameters.{Parameters}
 use Rattle.component.specs.declared.parameters.Lengths.{Lengths}
 use Rattle.component.specs.declared.parameters.Job.{Job}
@@ -43,12 +45,21 @@ transforms Decode = true
 
 -- "Coefficient and work planes need padded width times padded height entries, samples width times height."
 unfoldable pub areaOf : Parameters → ℕ
-areaOf p = paddedSize (p .depth) (p .width) * paddedSize (p .depth) (p .height)
+areaOf p = paddedWidth p * paddedHeight p
 
 unfoldable pub planesFit : Job → Parameters → Lengths → Bool
 planesFit job p l =
     eqb (l .coefficients) (areaOf p)
     && (not (transforms job) || (eqb (l .work) (areaOf p) && eqb (l .samples) (p .width * p .height)))
+
+-- The lengths of three planes.
+abbrev pub lengthsOf : List ℤ → List ℤ → List ℤ → Lengths
+lengthsOf coefficients work samples =
+    record { coefficients = length coefficients; work = length work; samples = length samples }
+
+-- Whether parameters have a padded area, of at most so many entries.
+unfoldable pub areaWithin : Parameters → ℕ → Bool
+areaWithin p most = sizesInRange p && depthInRange p && leb (areaOf p) most
 
 -- "Checks run in this order; the first that applies is given." 0 where none does.
 -- "Unpack gives 1, 2, 4, 5 and 6 to 9; synthesise 1, 2, 3, 5 and 10; decode 1 to 10."

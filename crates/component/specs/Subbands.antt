@@ -22,8 +22,8 @@ detailOf zero = HH
 detailOf (suc zero) = HL
 detailOf (suc (suc r)) = LH
 
-unfoldable pub orientation : ℕ → Orientation
-orientation k = cond (eqb k 0) LL (detailOf (k % 3))
+unfoldable pub orientationOf : ℕ → Orientation
+orientationOf k = cond (eqb k 0) LL (detailOf (k % 3))
 
 -- "LL is top left. At level n with band size bw by bh: HL starts at column bw, row 0; LH at column 0, row bh; HH at column bw, row bh."
 unfoldable pub leftOf : Orientation → ℕ → ℕ
@@ -43,14 +43,14 @@ unfoldable pub subbandAt : ℕ → ℕ → ℕ → ℕ → Subband
 subbandAt depth pw ph k =
     record {
       level = subbandLevel k;
-      left = leftOf (orientation k) (bandSize depth pw (subbandLevel k));
-      top = topOf (orientation k) (bandSize depth ph (subbandLevel k));
+      left = leftOf (orientationOf k) (bandSize depth pw (subbandLevel k));
+      top = topOf (orientationOf k) (bandSize depth ph (subbandLevel k));
       width = bandSize depth pw (subbandLevel k);
       height = bandSize depth ph (subbandLevel k);
     }
 
 -- A row and a column of the coefficient plane lie in the subband.
-pub record Lies (s : Subband) (row column : ℕ) : Type 0 where
+pub record InSubband (s : Subband) (row column : ℕ) : Type 0 where
   pub below-top : s .top ≤ row
   pub above-bottom : row < s .top + s .height
   pub right-of-left : s .left ≤ column

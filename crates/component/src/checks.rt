@@ -1,11 +1,13 @@
 // Document 01, "Refusal numbers": the checks behind refusals 1 to 5.
 ghost use mathlib.Core.Path.{_≡_};
 ghost use mathlib.Core.Bool.{true, not, _&&_};
-ghost use Rattle.component.specs.Checks.{inRange, unpacks, transforms, areaOf, sizesInRange, depthInRange, waveletInRange, codeblocksInRange, planesFit, refusalOf};
+ghost use Rattle.component.specs.Checks.{inRange, unpacks, transforms, areaOf, areaWithin, sizesInRange, depthInRange, waveletInRange, codeblocksInRange, planesFit, refusalOf};
+ghost use Rattle.component.specs.Sized.{Sized};
 use crate::parameters::Job;
 use crate::parameters::Lengths;
 use crate::parameters::Parameters;
-use crate::sizes::padded_size;
+use crate::sizes::padded_height;
+use crate::sizes::padded_width;
 use base::limits;
 use base::status;
 
@@ -16,7 +18,7 @@ pub fn refusal(job: Job, p: Parameters, lengths: Lengths) -> u32
     if !sizes_in_range(p) {
         return status::SIZE_REFUSED;
     }
-    if !in_range(0, limits::DEPTH_MOST, p.depth) {
+    if !depth_in_range(p) {
         return status::DEPTH_REFUSED;
     }
     if wavelet_refused(job, p) {
@@ -90,6 +92,13 @@ pub fn sizes_in_range(p: Parameters) -> bool
     in_range(1, limits::SIZE_MOST, p.width) && in_range(1, limits::SIZE_MOST, p.height)
 }
 
+// Whether the depth is in range.
+fn depth_in_range(p: Parameters) -> bool
+    ensures { λ r. ⌜ r ≡ depthInRange p ⌝ }
+{
+    in_range(0, limits::DEPTH_MOST, p.depth)
+}
+
 // Whether the codeblock counts of levels 0 to depth are in range.
 fn codeblocks_in_range(p: Parameters) -> bool
     requires { ⌜ depthInRange p ≡ true ⌝ }
@@ -115,9 +124,9 @@ fn counts_in_range(across: u32, down: u32) -> bool
     in_range(1, limits::CODEBLOCKS_MOST, across) && in_range(1, limits::CODEBLOCKS_MOST, down)
 }
 
-// Whether each plane that a job is lent has exactly the length it needs.
+// Whether each plane of a job has exactly the length it needs.
 fn planes_fit(job: Job, p: Parameters, lengths: Lengths) -> bool
-    requires { ⌜ (sizesInRange p ≡ true) × (depthInRange p ≡ true) ⌝ }
+    requires { ⌜ Sized p ⌝ }
     ensures { λ r. ⌜ r ≡ planesFit job p lengths ⌝ }
 {
     let area = padded_area(p);
@@ -132,9 +141,21 @@ fn planes_fit(job: Job, p: Parameters, lengths: Lengths) -> bool
 
 // How many entries the coefficient plane has.
 pub fn padded_area(p: Parameters) -> usize
-    requires { ⌜ (sizesInRange p ≡ true) × (depthInRange p ≡ true) ⌝ }
+    requires { ⌜ Sized p ⌝ }
     ensures { λ r. ⌜ r ≡ areaOf p ⌝ }
 {
-    let depth = p.depth as usize;
-    padded_size(depth, p.width as usize) * padded_size(depth, p.height as usize)
+    padded_width(p) * padded_height(p)
+}
+
+// Whether parameters have a padded area, of at most so many entries.
+pub fn area_within(p: Parameters, most: usize) -> bool
+    ensures { λ r. ⌜ r ≡ areaWithin p most ⌝ }
+{
+    if !sizes_in_range(p) {
+        return false;
+    }
+    if !depth_in_range(p) {
+        return false;
+    }
+    padded_area(p) <= most
 }

@@ -25,7 +25,7 @@ pub enum Job {
     Decode,
 }
 
-// The lengths of the planes that a job is lent. Unpack is lent the coefficients alone, and the other two are not looked at.
+// The lengths of the planes of a job. Unpack has the coefficients alone, and the other two are not looked at.
 pub struct Lengths {
     pub coefficients: usize,
     pub work: usize,

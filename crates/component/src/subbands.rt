@@ -1,7 +1,7 @@
 // Document 01, "Sizes and the coefficient plane": the subbands in stream order.
 ghost use mathlib.Core.Path.{_≡_};
 ghost use Prim.Native.Nat.{_≤_, _<_};
-ghost use Rattle.component.specs.Subbands.{subbandCount, orientation, leftOf, topOf, subbandAt};
+ghost use Rattle.component.specs.Subbands.{subbandCount, orientationOf, leftOf, topOf, subbandAt};
 use crate::sizes::band_size;
 
 // A subband's level, and the rectangle of the coefficient plane that it takes.
@@ -40,7 +40,7 @@ pub fn subband_at(depth: usize, padded_width: usize, padded_height: usize, k: us
 
 // The first column of subband k, whose level has bands of this width.
 fn left_of(k: usize, width: usize) -> usize
-    ensures { λ r. ⌜ r ≡ leftOf (orientation k) width ⌝ }
+    ensures { λ r. ⌜ r ≡ leftOf (orientationOf k) width ⌝ }
 {
     if k == 0 {
         return 0;
@@ -50,7 +50,7 @@ fn left_of(k: usize, width: usize) -> usize
 
 // The first row of subband k, whose level has bands of this height.
 fn top_of(k: usize, height: usize) -> usize
-    ensures { λ r. ⌜ r ≡ topOf (orientation k) height ⌝ }
+    ensures { λ r. ⌜ r ≡ topOf (orientationOf k) height ⌝ }
 {
     if k == 0 {
         return 0;

@@ -1,1 +1,3 @@
+-- Document 01
+pub mod Bytes
 pub mod Table

@@ -1,2 +1,3 @@
-// Document 01, "A recording": the contents of a recording.
+// Document 01, "A recording": the contents of a recording, and the numbers of its file.
+pub mod bytes;
 pub mod table;

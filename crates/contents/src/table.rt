@@ -3,9 +3,12 @@ ghost use mathlib.Core.Path.{_≡_};
 ghost use mathlib.Core.Bool.{_&&_};
 ghost use Prim.Native.Nat.{_+_, _≤_, _<_};
 ghost use lib.Dec.{eqb};
-ghost use lib.ListN.{length, getD};
+ghost use lib.ListN.{length};
 ghost use Rattle.base.specs.Every.{allBelow};
-ghost use Rattle.contents.specs.Table.{statedCount, entryPlace, bigEndian, codeblockCount, codeblockCounts, parametersAt, bodyStart, entryIsRight, tableIsRight, entryCount, entryAt};
+ghost use Rattle.contents.specs.Table.{statedCount, entryOffset, codeblockCount, codeblockCounts, parametersAt, bodyStart, entryIsRight, tableIsRight, entryCount, entryAt};
+use crate::bytes::byte_at;
+use crate::bytes::four_bytes_at;
+use crate::bytes::two_bytes_at;
 use component::parameters::Parameters;
 
 // The most bytes that a recording has.
@@ -21,7 +24,7 @@ const ENTRY_SIZE: usize = 26;
 pub struct Entry {
     pub parameters: Parameters,
     pub start: usize,
-    pub length: usize,
+    pub size: usize,
 }
 
 // How many entries a recording has: 0 where its table is wrong.
@@ -40,28 +43,28 @@ pub fn entry_at(file: &[u8], k: usize) -> Entry
     requires { ⌜ k < entryCount (now file) ⌝ }
     ensures { λ r. ⌜ r ≡ entryAt (now (file .entry)) k ⌝ }
 {
-    let place = entry_place(k);
+    let offset = entry_offset(k);
     Entry {
         parameters: parameters_at(file, k),
-        start: four_bytes_at(file, place + 18),
-        length: four_bytes_at(file, place + 22),
+        start: four_bytes_at(file, offset + 18),
+        size: four_bytes_at(file, offset + 22),
     }
 }
 
 // The parameters of entry k.
 fn parameters_at(file: &[u8], k: usize) -> Parameters
-    requires { ⌜ (k < 16) × (entryPlace (k + 1) ≤ length (now file)) ⌝ }
+    requires { ⌜ (k < 16) × (entryOffset (k + 1) ≤ length (now file)) ⌝ }
     ensures { λ r. ⌜ r ≡ parametersAt (now (file .entry)) k ⌝ }
 {
-    let place = entry_place(k);
+    let offset = entry_offset(k);
     Parameters {
-        width: two_bytes_at(file, place),
-        height: two_bytes_at(file, place + 2),
-        depth: byte_at(file, place + 4),
-        wavelet: byte_at(file, place + 5),
-        intra: byte_at(file, place + 6) == 1,
-        codeblocks_across: codeblock_counts(file, place + 8),
-        codeblocks_down: codeblock_counts(file, place + 9),
+        width: two_bytes_at(file, offset),
+        height: two_bytes_at(file, offset + 2),
+        depth: byte_at(file, offset + 4),
+        wavelet: byte_at(file, offset + 5),
+        intra: byte_at(file, offset + 6) == 1,
+        codeblocks_across: codeblock_counts(file, offset + 8),
+        codeblocks_down: codeblock_counts(file, offset + 9),
     }
 }
 
@@ -79,7 +82,7 @@ fn table_is_right(file: &[u8]) -> bool
     if ENTRIES_MOST < count {
         return false;
     }
-    if file.len() < entry_place(count) {
+    if file.len() < entry_offset(count) {
         return false;
     }
     bodies_are_right(file, count)
@@ -87,16 +90,18 @@ fn table_is_right(file: &[u8]) -> bool
 
 // Whether every entry keeps to the rules, and the last body ends the file.
 fn bodies_are_right(file: &[u8], count: usize) -> bool
-    requires { ⌜ (count ≡ statedCount (now file)) × (count ≤ 16) × (entryPlace count ≤ length (now file)) ⌝ }
-    ensures { λ r. ⌜ r ≡ allBelow count (entryIsRight (now (file .entry))) && eqb (bodyStart (now (file .entry)) count) (length (now (file .entry))) ⌝ }
+    requires { ⌜ (count ≡ statedCount (now file)) × (count ≤ 16) × (entryOffset count ≤ length (now file)) ⌝ }
+    ensures { λ r. ⌜
+        r ≡ allBelow count (entryIsRight (now (file .entry))) && eqb (bodyStart (now (file .entry)) count) (length (now (file .entry)))
+        ⌝ }
 {
-    let mut end = entry_place(count);
+    let mut end = entry_offset(count);
     let mut k = 0;
     while k < count {
         if !entry_is_right(file, k, end) {
             return false;
         }
-        end += four_bytes_at(file, entry_place(k) + 22);
+        end += four_bytes_at(file, entry_offset(k) + 22);
         k += 1;
     }
     end == file.len()
@@ -104,17 +109,17 @@ fn bodies_are_right(file: &[u8], count: usize) -> bool
 
 // Whether entry k keeps to the rules, where its body has to start at `start`.
 fn entry_is_right(file: &[u8], k: usize, start: usize) -> bool
-    requires { ⌜ (k < 16) × (entryPlace (k + 1) ≤ length (now file)) × (start ≡ bodyStart (now file) k) ⌝ }
+    requires { ⌜ (k < 16) × (entryOffset (k + 1) ≤ length (now file)) × (start ≡ bodyStart (now file) k) ⌝ }
     ensures { λ r. ⌜ r ≡ entryIsRight (now (file .entry)) k ⌝ }
 {
-    let place = entry_place(k);
-    if 1 < byte_at(file, place + 6) {
+    let offset = entry_offset(k);
+    if 1 < byte_at(file, offset + 6) {
         return false;
     }
-    if byte_at(file, place + 7) != 0 {
+    if byte_at(file, offset + 7) != 0 {
         return false;
     }
-    four_bytes_at(file, place + 18) == start
+    four_bytes_at(file, offset + 18) == start
 }
 
 // The number of entries that the first byte states, 0 where there is none.
@@ -128,14 +133,14 @@ fn stated_count(file: &[u8]) -> usize
 }
 
 // Where entry k starts; after the last, where the table ends.
-fn entry_place(k: usize) -> usize
+fn entry_offset(k: usize) -> usize
     requires { ⌜ k ≤ 16 ⌝ }
-    ensures { λ r. ⌜ r ≡ entryPlace k ⌝ }
+    ensures { λ r. ⌜ r ≡ entryOffset k ⌝ }
 {
     1 + ENTRY_SIZE * k
 }
 
-// The codeblock counts of five levels, which stand in every other byte from a place on.
+// The codeblock counts of five levels, which stand in every other byte from an offset on.
 fn codeblock_counts(file: &[u8], at: usize) -> [u32; 5]
     requires { ⌜ at + 8 < length (now file) ⌝ }
     ensures { λ r. ⌜ r ≡ codeblockCounts (now (file .entry)) at ⌝ }
@@ -154,28 +159,4 @@ fn codeblock_count(byte: u32) -> u32
     ensures { λ r. ⌜ r ≡ codeblockCount byte ⌝ }
 {
     if byte == 0 { 1 } else { byte }
-}
-
-// The number of four bytes, from a place on.
-fn four_bytes_at(file: &[u8], at: usize) -> usize
-    requires { ⌜ at + 4 ≤ length (now file) ⌝ }
-    ensures { λ r. ⌜ (r ≡ bigEndian (now (file .entry)) at 4) × (r < 4294967296) ⌝ }
-{
-    (two_bytes_at(file, at) as usize) * 65536 + (two_bytes_at(file, at + 2) as usize)
-}
-
-// The number of two bytes, from a place on.
-fn two_bytes_at(file: &[u8], at: usize) -> u32
-    requires { ⌜ at + 2 ≤ length (now file) ⌝ }
-    ensures { λ r. ⌜ (r ≡ bigEndian (now (file .entry)) at 2) × (r < 65536) ⌝ }
-{
-    byte_at(file, at) * 256 + byte_at(file, at + 1)
-}
-
-// The byte at a place.
-fn byte_at(file: &[u8], at: usize) -> u32
-    requires { ⌜ at < length (now file) ⌝ }
-    ensures { λ r. ⌜ (r ≡ getD (now (file .entry)) at 0) × (r < 256) ⌝ }
-{
-    file[at] as u32
 }

@@ -2,27 +2,27 @@
 -- Assumes nothing.
 use mathlib.Core.Path.{_≡_, refl, sym, subst, ap, _∙_}
 use mathlib.Core.Logic.{_≢_}
-use mathlib.Core.Bool.{true, not}
+use mathlib.Core.Bool.{true}
 use mathlib.Core.List.{List}
-use Prim.Native.Nat.{ℕ, _*_}
+use Prim.Native.Nat.{ℕ}
 use native.Mathlib.Decide.{ℕ-discrete}
 use lib.IntN.{ℤ}
 use lib.ListN.{length}
 use lib.Dec.{eqb}
 use borrow.Author.Tests.{eq-eqb, ne-eqb}
-use Rattle.base.specs.Fill.{zerosLike}
-use Rattle.base.proofs.Everys.{and-left, and-true}
-use Rattle.base.proofs.Fills.{zeros-length}
-use Rattle.component.specs.Checks.{areaOf, planesFit, refusalOf}
+use Rattle.base.specs.Lists.{zerosLike}
+use Rattle.base.proofs.Booleans.{and-left, and-true}
+use Rattle.base.proofs.ListsLaws.{zeros-length}
+use Rattle.component.specs.Checks.{areaOf, planesFit, refusalOf, lengthsOf}
 use Rattle.component.specs.declared.parameters.Parameters.{Parameters}
 use Rattle.component.specs.declared.parameters.Answer.{Answer}
 use Rattle.component.specs.declared.parameters.Job.the-variants.{Unpack, Synthesise, Decode}
-use Rattle.component.proofs.CheckLaws.{passed, refused-none}
-use Rattle.unpack.specs.Job.{Unpacked, unpacked, outcome as unpackOutcome}
+use Rattle.component.proofs.ChecksLaws.{passed, refused-none}
+use Rattle.unpack.specs.Job.{UnpackResult, unpacked, outcome as unpackOutcome}
 use Rattle.unpack.proofs.JobLaws.{refused-zeros}
-use Rattle.transform.specs.Job.{Synthesised, lengthsOf, synthesised, outcome as synthesisOutcome}
+use Rattle.transform.specs.Job.{SynthesisResult, synthesised, outcome as synthesisOutcome}
 use Rattle.transform.proofs.Jobs.{refused-zeros as synthesis-zeros}
-use Rattle.decode.specs.Job.{Decoded, outcome, unchanged, zeroed, accepted, unpackedAndSynthesised, decoded}
+use Rattle.decode.specs.Job.{DecodeResult, outcome, unchanged, zeroed, accepted, unpackedAndSynthesised, decoded}
 
 module _ (p : Parameters) (bytes : List ℕ) (coefficients work samples : List ℤ) where
   abbrev status : ℕ
@@ -38,7 +38,7 @@ module _ (p : Parameters) (bytes : List ℕ) (coefficients work samples : List �
   accepted-checked fine =
       elim (ℕ-discrete status 0) [
         | yes none ↦ none
-        | no some ↦ ap (λ (d : Decoded). d .status) (refused-by-check some) ∙ fine
+        | no some ↦ ap (λ (d : DecodeResult). d .status) (refused-by-check some) ∙ fine
       ]
 
   -- no check refuses
@@ -65,7 +65,7 @@ module _ (p : Parameters) (bytes : List ℕ) (coefficients work samples : List �
       pub refused-by-bytes : u .status ≢ 0 → outcome u after (zerosLike work) (zerosLike samples) ≡ decoded p bytes coefficients work samples
       unfolding unpackedAndSynthesised outcome unpackOutcome zeroed
       refused-by-bytes some =
-          let zeros : after ≡ zerosLike after = subst (λ (t : Unpacked). t .status ≢ 0 → t .coefficients ≡ zerosLike (t .coefficients)) (sym told) (refused-zeros p bytes coefficients unpack-passes) some in
+          let zeros : after ≡ zerosLike after = subst (λ (t : UnpackResult). t .status ≢ 0 → t .coefficients ≡ zerosLike (t .coefficients)) (sym told) (refused-zeros p bytes coefficients unpack-passes) some in
           rw (decoded-from, ne-eqb (u .status) 0 some) (ap (λ (l : List ℤ). outcome u l (zerosLike work) (zerosLike samples)) (zeros ∙ zeros-length after coefficients same))
 
       -- what synthesise answered and left in work and samples
@@ -74,7 +74,7 @@ module _ (p : Parameters) (bytes : List ℕ) (coefficients work samples : List �
         unfolding unpackedAndSynthesised outcome unpackOutcome synthesisOutcome zeroed
         refused-by-synthesis some =
             let zeros : (w ≡ zerosLike work) × (v ≡ zerosLike samples) =
-            subst (λ (t : Synthesised). t .status ≢ 0 → (t .work ≡ zerosLike work) × (t .samples ≡ zerosLike samples)) (sym made) (synthesis-zeros p after work samples (synthesise-passes after same)) some in
+            subst (λ (t : SynthesisResult). t .status ≢ 0 → (t .work ≡ zerosLike work) × (t .samples ≡ zerosLike samples)) (sym made) (synthesis-zeros p after work samples (synthesise-passes after same)) some in
             rw (decoded-from, fine, ← made, ne-eqb (s .status) 0 some, zeros .0, zeros .1, zeros-length after coefficients same) refl
 
         pub job-accepted : s .status ≡ 0 → outcome u after w v ≡ decoded p bytes coefficients work samples

@@ -1,31 +1,27 @@
--- How far a number code reaches: its bits stay within the data and within 63 bits, so what lies further on does not matter.
+-- How far a number code reaches: its bits stay within the data and within 63 bits, so what lies further on does not matter, and a number that
+-- is missing begins less than 64 bits before the end.
 -- Assumes nothing.
-use mathlib.Core.Path.{_≡_, refl, sym, _∙_, subst}
+use mathlib.Core.Path.{_≡_, refl, sym, _∙_, subst, ap}
 use mathlib.Core.Bool.{Bool, true, false}
 use mathlib.Core.List.{List}
 use Prim.Native.Nat.{ℕ, zero, suc, _+_, _-_, _*_, _≤_, min}
 use native.Mathlib.Decide.{ℕ-discrete, decLe}
 use native.Mathlib.Omega.{arith}
+use lib.Dec.{eqb}
 use lib.ListN.{length}
 use borrow.Author.Tests.{le-ltb}
 use Rattle.exp_golomb.specs.Bits.{present, takeBit}
 use Rattle.exp_golomb.specs.Codes.{nextOf, codeFrom, unsigned, withSignBit, signed}
 use Rattle.exp_golomb.specs.declared.bits.Bit.{Bit}
-use Rattle.exp_golomb.specs.declared.bits.Bit.the-variants.{Taken, Absent}
 use Rattle.exp_golomb.specs.declared.codes.Number.{Number}
 use Rattle.exp_golomb.specs.declared.codes.Number.the-variants.{Read, Missing, TooLong}
-use Rattle.exp_golomb.proofs.BitLaws.{take-absent, take-past-stated, taken}
-use Rattle.exp_golomb.proofs.CodeLaws.{code-missing, code-ends, code-too-long, code-cut, code-goes-on, sign-none, sign-missing, sign-read}
-
--- what taking a bit can find
-pub takes : (P : Type 0) (b : Bit) → ((bit next : ℕ) → b ≡ Taken bit next → P) → (b ≡ Absent → P) → P
-takes P (Taken bit next) yes-bit no-bit = yes-bit bit next refl
-takes P Absent yes-bit no-bit = no-bit refl
+use Rattle.exp_golomb.proofs.BitsLaws.{takes, absent-past, take-absent, take-past-stated, taken}
+use Rattle.exp_golomb.proofs.CodesLaws.{code-missing, code-ends, code-too-long, code-cut, code-goes-on, sign-none, sign-missing, sign-read}
 
 -- A position that a code of so many data bits, which starts at bit i, can come to, in data that end at `last`.
-pub record Reach (i left last next : ℕ) : Type 0 where
+pub record CodeEnd (i left last next : ℕ) : Type 0 where
   pub onward : i ≤ next
-  pub near : next ≤ i + 2 * left + 1
+  pub bits-most : next ≤ i + 2 * left + 1
   pub within : i ≤ last → next ≤ last
 
 module _ (bytes : List ℕ) (end : ℕ) (stated : Bool) where
@@ -39,65 +35,65 @@ module _ (bytes : List ℕ) (end : ℕ) (stated : Bool) where
   code = codeFrom bytes end stated
 
   -- every position that a code comes to
-  pub code-reach : (left v i : ℕ) → Reach i left last (nextOf (code left v i))
-  code-reach zero v i =
-      takes (Reach i zero last (nextOf (code zero v i))) (take i)
+  pub code-end : (left v i : ℕ) → CodeEnd i left last (nextOf (code left v i))
+  code-end zero v i =
+      takes (CodeEnd i zero last (nextOf (code zero v i))) (take i)
       (λ bit next e.
       let t = taken bytes end stated i bit next e in
-      let here : Reach i zero last next = record { onward = t .goes-on; near = omega (arith, t .one-at-most); within = t .within } in
+      let here : CodeEnd i zero last next = record { onward = t .goes-on; bits-most = omega (arith, t .one-at-most); within = t .within } in
       elim (ℕ-discrete bit 1) [
         | yes one ↦ rw (code-ends bytes end stated zero v i bit next e one) here
         | no other ↦ rw (code-too-long bytes end stated zero v i bit next e other refl) here
       ])
-      (λ e. rw (code-missing bytes end stated zero v i e) (record { onward = omega arith; near = omega arith; within = λ h. h }))
-  code-reach (suc left) v i =
-      takes (Reach i (suc left) last (nextOf (code (suc left) v i))) (take i)
+      (λ e. rw (code-missing bytes end stated zero v i e) (record { onward = omega arith; bits-most = omega arith; within = λ h. h }))
+  code-end (suc left) v i =
+      takes (CodeEnd i (suc left) last (nextOf (code (suc left) v i))) (take i)
       (λ bit next e.
       let t = taken bytes end stated i bit next e in
-      let here : Reach i (suc left) last next = record { onward = t .goes-on; near = omega (arith, t .one-at-most); within = t .within } in
+      let here : CodeEnd i (suc left) last next = record { onward = t .goes-on; bits-most = omega (arith, t .one-at-most); within = t .within } in
       elim (ℕ-discrete bit 1) [
         | yes one ↦ rw (code-ends bytes end stated (suc left) v i bit next e one) here
         | no other ↦
-            takes (Reach i (suc left) last (nextOf (code (suc left) v i))) (take next)
+            takes (CodeEnd i (suc left) last (nextOf (code (suc left) v i))) (take next)
             (λ d after e2.
             let u = taken bytes end stated next d after e2 in
             let less : suc left - 1 ≡ left = omega arith in
-            let rest = code-reach left (2 * v + d) after in
+            let rest = code-end left (2 * v + d) after in
             rw (code-goes-on bytes end stated (suc left) v i bit next d after e other (omega arith) e2, less)
             (record {
               onward = omega (arith, t .goes-on, u .goes-on, rest .onward);
-              near = omega (arith, t .one-at-most, u .one-at-most, rest .near);
+              bits-most = omega (arith, t .one-at-most, u .one-at-most, rest .bits-most);
               within = λ h. rest .within (u .within (t .within h));
             }))
             (λ e2. rw (code-cut bytes end stated (suc left) v i bit next e other (omega arith) e2) here)
       ])
-      (λ e. rw (code-missing bytes end stated (suc left) v i e) (record { onward = omega arith; near = omega arith; within = λ h. h }))
+      (λ e. rw (code-missing bytes end stated (suc left) v i e) (record { onward = omega arith; bits-most = omega arith; within = λ h. h }))
 
   -- a number that was read, from its start on
-  pub unsigned-reach : (i size : ℕ) (minus : Bool) (next : ℕ) → unsigned bytes end stated i ≡ Read size minus next → Reach i 31 last next
+  pub unsigned-end : (i size : ℕ) (minus : Bool) (next : ℕ) → unsigned bytes end stated i ≡ Read size minus next → CodeEnd i 31 last next
   unfolding unsigned
-  unsigned-reach i size minus next e = subst (λ (n : Number). Reach i 31 last (nextOf n)) e (code-reach 31 1 i)
+  unsigned-end i size minus next e = subst (λ (n : Number). CodeEnd i 31 last (nextOf n)) e (code-end 31 1 i)
 
   -- every position that a signed number comes to: one bit more
-  signed-extent : (i : ℕ) → Reach i 32 last (nextOf (signed bytes end stated i))
+  signed-end : (i : ℕ) → CodeEnd i 32 last (nextOf (signed bytes end stated i))
   unfolding signed unsigned withSignBit
-  signed-extent i = by (unsigned bytes end stated i) refl (code-reach 31 1 i)
+  signed-end i = by (unsigned bytes end stated i) refl (code-end 31 1 i)
     where
-      more : {next : ℕ} → Reach i 31 last next → Reach i 32 last next
-      more reach = record { onward = reach .onward; near = omega (arith, reach .near); within = reach .within }
+      more : {next : ℕ} → CodeEnd i 31 last next → CodeEnd i 32 last next
+      more reach = record { onward = reach .onward; bits-most = omega (arith, reach .bits-most); within = reach .within }
 
-      by : (number : Number) → unsigned bytes end stated i ≡ number → Reach i 31 last (nextOf number) → Reach i 32 last (nextOf (signed bytes end stated i))
+      by : (number : Number) → unsigned bytes end stated i ≡ number → CodeEnd i 31 last (nextOf number) → CodeEnd i 32 last (nextOf (signed bytes end stated i))
       by (Read size minus next) u reach =
           elim (ℕ-discrete size 0) [
             | yes none ↦ rw (sign-none bytes end stated (unsigned bytes end stated i) size minus next u none) (more reach)
             | no some ↦
-                takes (Reach i 32 last (nextOf (signed bytes end stated i))) (take next)
+                takes (CodeEnd i 32 last (nextOf (signed bytes end stated i))) (take next)
                 (λ bit after e.
                 let t = taken bytes end stated next bit after e in
                 rw (sign-read bytes end stated (unsigned bytes end stated i) size minus next bit after u some e)
                 (record {
                   onward = omega (arith, reach .onward, t .goes-on);
-                  near = omega (arith, reach .near, t .one-at-most);
+                  bits-most = omega (arith, reach .bits-most, t .one-at-most);
                   within = λ h. t .within (reach .within h);
                 }))
                 (λ e. rw (sign-missing bytes end stated (unsigned bytes end stated i) size minus next u some e) (more reach))
@@ -105,13 +101,9 @@ module _ (bytes : List ℕ) (end : ℕ) (stated : Bool) where
       by (Missing next) u reach = rw u (more reach)
       by (TooLong next) u reach = rw u (more reach)
 
-  -- a signed number ends no earlier than it starts
-  pub signed-onward : (i : ℕ) → i ≤ nextOf (signed bytes end stated i)
-  signed-onward i = signed-extent i .onward
-
   -- one that starts within the data ends within them
-  pub signed-reach : (i : ℕ) → i ≤ last → nextOf (signed bytes end stated i) ≤ last
-  signed-reach i = signed-extent i .within
+  pub signed-within : (i : ℕ) → i ≤ last → nextOf (signed bytes end stated i) ≤ last
+  signed-within i = signed-end i .within
 
   -- one that starts past the data takes no bit
   pub signed-past : (i : ℕ) → last ≤ i → nextOf (signed bytes end stated i) ≡ i
@@ -131,9 +123,72 @@ module _ (bytes : List ℕ) (end : ℕ) (stated : Bool) where
   pub signed-before : (i : ℕ) → i ≤ end → nextOf (signed bytes end stated i) ≤ end
   signed-before i before =
       elim (decLe i last) [
-        | yes inside ↦ omega (arith, signed-reach i inside)
+        | yes inside ↦ omega (arith, signed-within i inside)
         | no beyond ↦ omega (arith, signed-past i (omega arith))
       ]
+
+  -- where a number is missing, the bit that it came to is past the end
+  abbrev Short : Number → Type 0
+  Short (Read size minus next) = Unit {0}
+  Short (Missing next) = last ≤ next
+  Short (TooLong next) = Unit {0}
+
+  code-short : (left v i : ℕ) → Short (codeFrom bytes end stated left v i)
+  code-short zero v i =
+      takes (Short (codeFrom bytes end stated zero v i)) (takeBit bytes end stated i)
+      (λ bit next t.
+      elim (ℕ-discrete bit 1) [
+        | yes one ↦ rw (code-ends bytes end stated zero v i bit next t one) tt
+        | no other ↦ rw (code-too-long bytes end stated zero v i bit next t other refl) tt
+      ])
+      (λ t. rw (code-missing bytes end stated zero v i t) (absent-past bytes end stated i t))
+  code-short (suc left) v i =
+      takes (Short (codeFrom bytes end stated (suc left) v i)) (takeBit bytes end stated i)
+      (λ bit next t.
+      elim (ℕ-discrete bit 1) [
+        | yes one ↦ rw (code-ends bytes end stated (suc left) v i bit next t one) tt
+        | no other ↦
+            takes (Short (codeFrom bytes end stated (suc left) v i)) (takeBit bytes end stated next)
+            (λ bit₂ after u.
+            let less : suc left - 1 ≡ left = omega arith in
+            rw (code-goes-on bytes end stated (suc left) v i bit next bit₂ after t other (omega arith) u, less) (code-short left (2 * v + bit₂) after))
+            (λ u. rw (code-cut bytes end stated (suc left) v i bit next t other (omega arith) u) (absent-past bytes end stated next u))
+      ])
+      (λ t. rw (code-missing bytes end stated (suc left) v i t) (absent-past bytes end stated i t))
+
+  -- so a number that is missing begins less than 64 bits before the end
+  pub unsigned-short : (i next : ℕ) → unsigned bytes end stated i ≡ Missing next → last ≤ i + 63
+  unfolding unsigned
+  unsigned-short i next e =
+      let short : last ≤ next = subst Short e (code-short 31 1 i) in
+      let most : next ≤ i + 2 * 31 + 1 = subst (λ (n : Number). nextOf n ≤ i + 2 * 31 + 1) e (code-end 31 1 i .bits-most) in
+      omega arith
+
+  pub signed-short : (i next : ℕ) → signed bytes end stated i ≡ Missing next → last ≤ i + 63
+  unfolding signed withSignBit unsigned
+  signed-short i next e = by (unsigned bytes end stated i) refl
+    where
+      by : (number : Number) → unsigned bytes end stated i ≡ number → last ≤ i + 63
+      by (Read s m n) u =
+          let most : n ≤ i + 2 * 31 + 1 = subst (λ (x : Number). nextOf x ≤ i + 2 * 31 + 1) u (code-end 31 1 i .bits-most) in
+          elim (ℕ-discrete s 0) [
+            | yes none ↦
+                let never : Read 0 false n ≡ Missing next = sym (sign-none bytes end stated (unsigned bytes end stated i) s m n u none) ∙ e in
+                let z : _≡_ {A = ℕ} 0 1 = cc in
+                absurd (omega arith)
+            | no some ↦
+                takes (last ≤ i + 63) (takeBit bytes end stated n)
+                (λ bit after t.
+                let never : Read s (eqb bit 1) after ≡ Missing next = sym (sign-read bytes end stated (unsigned bytes end stated i) s m n bit after u some t) ∙ e in
+                let z : _≡_ {A = ℕ} 0 1 = cc in
+                absurd (omega arith))
+                (λ t. omega (arith, absent-past bytes end stated n t))
+          ]
+      by (Missing n) u = unsigned-short i n u
+      by (TooLong n) u =
+          let never : TooLong n ≡ Missing next = sym (ap (withSignBit bytes end stated) u) ∙ e in
+          let z : _≡_ {A = ℕ} 0 1 = cc in
+          absurd (omega arith)
 
 -- another end, where the bits within reach are the same
 module _ (bytes : List ℕ) (end₁ end₂ : ℕ) (stated : Bool) where

@@ -12,7 +12,7 @@ use Rattle.exp_golomb.specs.Bits.{bitAt, present, takeBit}
 use Rattle.exp_golomb.specs.Codes.{unsigned}
 use Rattle.exp_golomb.specs.declared.bits.Bit.the-variants.{Taken}
 use Rattle.exp_golomb.specs.declared.codes.Number.the-variants.{Read}
-use Rattle.exp_golomb.proofs.BitLaws.{take-present, unstated-taken}
+use Rattle.exp_golomb.proofs.BitsLaws.{take-present, unstated-taken}
 use Rattle.exp_golomb.proofs.Moved.{unsigned-moved-upto}
 
 -- a bit of bytes that are followed by others

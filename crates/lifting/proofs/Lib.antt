@@ -1,12 +1,5 @@
--- The laws of lifting steps and of passes, for this crate and those above it.
-pub mod Lifts
-pub mod PassLaws
-pub mod Taps
-pub mod TableLaws
-pub mod ReachLaws
-pub mod Frames
-pub mod PairLaws
-pub mod RowLaws
+-- The laws of pictures in planes and of rows in the line buffer, for this crate and those above it.
+pub mod LayoutLaws
+pub mod ColumnLaws
 pub mod HalfLaws
-pub mod PlaneRows
-pub mod FilterFits
+pub mod PlaneRowLaws

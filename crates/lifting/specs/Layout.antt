@@ -1,5 +1,5 @@
 -- How the code lays the picture of a level out in a plane. These are the code's own forms; no definition of the format rests on them.
-use Prim.Native.Nat.{ℕ, _+_, _-_, _*_, _/_, _%_, _≤_, _<_, min}
+use Prim.Native.Nat.{ℕ, _+_, _*_, _/_, _%_, _≤_, _<_}
 use mathlib.Core.Path.{_≡_}
 use mathlib.Core.Bool.{Bool, true, cond}
 use mathlib.Core.List.{List, map}
@@ -8,18 +8,15 @@ use lib.IntN.{ℤ, pos}
 use lib.ListN.{length, getD}
 use Rattle.base.specs.Range.{fits32}
 use Rattle.lines.specs.Buffers.{shifted}
-use Rattle.lifting.specs.Lifting.{Line}
-use Rattle.lifting.specs.Filters.{Filter}
-use Rattle.lifting.specs.Passes.{Picture, Pass, rows, run, runAll, newFit, allNewFit}
-use Rattle.lifting.specs.Planes.{pictureOf}
-use Rattle.lifting.specs.declared.columns.Frame.{Frame}
-
--- Two pictures agree in their first h rows and w columns.
-abbrev pub Agree : ℕ → ℕ → Picture → Picture → Type 0
-Agree h w P Q = (row column : ℕ) → row < h → column < w → P row column ≡ Q row column
+use Rattle.filters.specs.Lifting.{Line}
+use Rattle.filters.specs.Filters.{Filter}
+use Rattle.filters.specs.Pictures.{Agree}
+use Rattle.filters.specs.Passes.{Picture, Pass, rows, run, runAll, newFit, allNewFit}
+use Rattle.filters.specs.Planes.{pictureOf}
+use Rattle.lifting.specs.declared.frame.Frame.{Frame}
 
 -- The picture of a frame has rows and columns, no more than 4096, and its rows stand apart within the plane.
-pub record Placed (f : Frame) (plane : List ℤ) : Type 0 where
+pub record FrameFits (f : Frame) (plane : List ℤ) : Type 0 where
   pub rows-least : 1 ≤ f .«band_rows»
   pub rows-most : f .«band_rows» ≤ 2048
   pub columns-least : 1 ≤ f .«band_columns»
@@ -27,20 +24,13 @@ pub record Placed (f : Frame) (plane : List ℤ) : Type 0 where
   pub apart : 2 * f .«band_columns» ≤ f .stride
   pub inside : 2 * f .«band_rows» * f .stride ≤ length plane
 
--- The row that a step changes, and the row that a tap reads, for bands of b rows: the sums of row pair k start 4 before the first tap.
-unfoldable pub targetRow : Bool → ℕ → ℕ
-targetRow even k = 2 * k + cond even 0 1
-
-unfoldable pub sourceRow : Bool → ℕ → ℕ → ℕ
-sourceRow even b s = 2 * min (s - 4) (b - 1) + cond even 1 0
-
--- The place of column x in a row that stands as two halves of b columns each: the even columns, then the odd ones.
-unfoldable pub halfPlace : ℕ → ℕ → ℕ
-halfPlace b x = cond (eqb (x % 2) 0) (x / 2) (b + x / 2)
+-- The index of column x in a row that stands as two halves of b columns each: the even columns, then the odd ones.
+unfoldable pub halfIndex : ℕ → ℕ → ℕ
+halfIndex b x = cond (eqb (x % 2) 0) (x / 2) (b + x / 2)
 
 -- The picture whose rows stand so in a plane.
 unfoldable pub halvesOf : ℕ → ℕ → List ℤ → Picture
-halvesOf b stride plane row x = getD plane (row * stride + halfPlace b x) (pos 0)
+halvesOf b stride plane row x = getD plane (row * stride + halfIndex b x) (pos 0)
 
 -- The picture in a frame of a plane, and the one whose rows stand there as two halves.
 abbrev pub framePicture : Frame → List ℤ → Picture
@@ -78,9 +68,13 @@ module _ (f : Frame) where
   abbrev pub ZerosOn : List ℤ → Type 0
   ZerosOn plane = (row x : ℕ) → row < 2 * f .«band_rows» → x < 2 * f .«band_columns» → getD plane (row * f .stride + x) (pos 0) ≡ pos 0
 
--- The row at a place of a plane, that stands there as two halves.
+-- The base of the half of the even elements in the line buffer, and of that of the odd ones.
+abbrev pub baseOf : Bool → ℕ
+baseOf even = cond even 0 2056
+
+-- The row from an index of a plane on, that stands there as two halves.
 abbrev pub halfLine : ℕ → ℕ → List ℤ → Line
-halfLine half place plane x = getD plane (place + halfPlace half x) (pos 0)
+halfLine half start plane x = getD plane (start + halfIndex half x) (pos 0)
 
 -- What steps make of a row of two halves, shifted or not, and whether their new numbers fit.
 module _ (half : ℕ) (filter : Filter) (line : Line) where

@@ -1,7 +1,4 @@
-pub mod Lifting
-pub mod Filters
-pub mod Passes
-pub mod Planes
-pub mod Table
+-- The code's own forms
 pub mod Layout
-pub mod Reach
+pub mod Lines
+pub mod LineBounds

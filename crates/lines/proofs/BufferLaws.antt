@@ -1,4 +1,4 @@
--- Laws of the line buffer: the ends of a half repeated, the entries of a woven row, and a number halved with the half rounded up.
+-- Laws of the line buffer: the ends of a half repeated, the entries of a interleaved row, and a number halved with the half rounded up.
 -- Assumes nothing.
 use mathlib.Core.Path.{_≡_, refl, ap, _∙_}
 use mathlib.Core.Bool.{Bool, true, false}
@@ -15,9 +15,9 @@ use lib.Signed.{mag}
 use Rattle.base.specs.Fill.{fill}
 use Rattle.base.specs.Floor.{floorDiv}
 use Rattle.base.specs.Range.{fits32}
-use Rattle.base.proofs.Fills.{fill-none, fill-more, length-fill, getD-fill-in, getD-fill-out, set-fill-out}
-use Rattle.base.proofs.Ranges.{fits32-below, below-fits32}
-use Rattle.lines.specs.Buffers.{clampedEntry, woven, shifted}
+use Rattle.base.proofs.FillLaws.{fill-none, fill-more, length-fill, getD-fill-in, getD-fill-out, set-fill-out}
+use Rattle.base.proofs.RangeLaws.{fits32-below, below-fits32}
+use Rattle.lines.specs.Buffers.{clampedEntry, interleaved, shifted}
 
 -- a difference of natural numbers that is not below 0
 pos-less : (a b : ℕ) → b ≤ a → pos a -ℤ pos b ≡ pos (a - b)
@@ -83,9 +83,9 @@ module _ (l : List ℤ) (base b : ℕ) where
                   getD-fill-out l base (λ k. first) 4 (base + s) (pos 0) (λ k below. omega arith) ∙ ap (λ (k : ℕ). getD l (base + k) (pos 0)) at
             ]
         | no after ↦
-            let place : base + b + 4 + (s - (b + 4)) ≡ base + s = omega arith in
+            let index : base + b + 4 + (s - (b + 4)) ≡ base + s = omega arith in
             let at : base + b + 3 ≡ base + (4 + min (s - 4) (b - 1)) = omega arith in
-            rw place at (getD-fill-in inner (base + b + 4) (λ k. last) 4 (s - (b + 4)) (pos 0) (omega arith) (rw (length-fill l base (λ k. first) 4) (omega arith)))
+            rw index at (getD-fill-in inner (base + b + 4) (λ k. last) 4 (s - (b + 4)) (pos 0) (omega arith) (rw (length-fill l base (λ k. first) 4) (omega arith)))
             ∙ ap (λ (k : ℕ). getD l k (pos 0)) at
       ]
 
@@ -96,16 +96,16 @@ module _ (l : List ℤ) (base b : ℕ) where
       getD-fill-out (fill l base 4 (λ k. first)) (base + b + 4) (λ k. last) 4 p (pos 0) (λ k below e. outside (b + 4 + k) (omega arith) (omega arith))
       ∙ getD-fill-out l base (λ k. first) 4 p (pos 0) (λ k below. outside k (omega arith))
 
--- an even and an odd place of a woven row
-pub woven-even : (halves : List ℤ) (x : ℕ) → woven halves (2 * x) ≡ getD halves (4 + x) (pos 0)
-unfolding woven
-woven-even halves x =
+-- an even and an odd entry of an interleaved row
+pub interleaved-even : (halves : List ℤ) (x : ℕ) → interleaved halves (2 * x) ≡ getD halves (4 + x) (pos 0)
+unfolding interleaved
+interleaved-even halves x =
     let half : 2 * x / 2 ≡ x = omega arith in
     rw (eq-eqb (2 * x % 2) 0 (omega arith), half)
 
-pub woven-odd : (halves : List ℤ) (x : ℕ) → woven halves (2 * x + 1) ≡ getD halves (2060 + x) (pos 0)
-unfolding woven
-woven-odd halves x =
+pub interleaved-odd : (halves : List ℤ) (x : ℕ) → interleaved halves (2 * x + 1) ≡ getD halves (2060 + x) (pos 0)
+unfolding interleaved
+interleaved-odd halves x =
     let half : (2 * x + 1) / 2 ≡ x = omega arith in
     rw (ne-eqb ((2 * x + 1) % 2) 0 (omega arith), half)
 

@@ -3,10 +3,10 @@
 use mathlib.Core.Path.{_≡_, refl, sym, ap, _∙_}
 use mathlib.Core.Bool.{true}
 use mathlib.Core.List.{List}
-use Prim.Native.Nat.{ℕ, zero, suc, _+_, _-_, _*_, _/_, _^_, _≤_, _<_}
+use Prim.Native.Nat.{ℕ, zero, suc, _+_, _-_, _*_, _^_, _≤_, _<_}
 use native.Mathlib.Numerals.{add-one}
 use native.Mathlib.Decide.{decLt}
-use native.Mathlib.Nat.{mul-comm, mul-le-mul-right, mul-div-le, le-div-iff-mul-le}
+use native.Mathlib.Nat.{le-refl, add-mul, mul-le-mul-right}
 use native.Mathlib.Omega.{arith}
 use lib.IntN.{ℤ, pos, natAbs, _+ℤ_, _-ℤ_, _*ℤ_, negsuc, +ℤ-idl, +ℤ-idr, +ℤ-assoc, +ℤ-comm, zero-*ℤ, sucℤ-*ℤ, *ℤ-comm, *ℤ-negsuc, negℤ, negℤ-+ℤ}
 use lib.ListN.{length, getD, List·getD-eq-default}
@@ -14,11 +14,12 @@ use lib.Signed.{mag}
 use Rattle.base.specs.Fill.{fill}
 use Rattle.base.specs.Floor.{floorDiv}
 use Rattle.base.specs.Range.{fits32}
-use Rattle.base.proofs.Fills.{length-fill, getD-fill-start}
-use Rattle.base.proofs.Ranges.{below-fits32}
-use Rattle.base.proofs.Magnitudes.{mag-size, size-mag, size-add, size-sub, size-mul, size-mul-most, size-floor}
+use Rattle.base.proofs.FillLaws.{length-fill, getD-fill-start}
+use Rattle.base.proofs.RangeLaws.{below-fits32}
+use Rattle.base.proofs.Integers.{mag-size, size-mag, size-add, size-sub, size-mul, size-mul-most}
+use Rattle.base.proofs.FloorLaws.{size-floor}
 use Rattle.lines.specs.Buffers.{Below}
-use Rattle.lines.specs.Sums.{sumBelow}
+use Rattle.lines.specs.Sums.{sumBelow, sizesBelow}
 
 -- a plane's entry with a quotient of a sum added or subtracted fits 64 bits
 module _ (v sum : ℤ) (d : ℕ) (hv : mag v < 2 ^ 31) (hs : natAbs sum ≤ 2 ^ 48) where
@@ -69,22 +70,22 @@ four-terms a b c d =
     ∙ ap (λ (t : ℤ). a +ℤ t) (sym (+ℤ-assoc b c d) ∙ ap (λ (t : ℤ). t +ℤ d) (+ℤ-comm b c) ∙ +ℤ-assoc c b d)
     ∙ sym (+ℤ-assoc a c (b +ℤ d))
 
-pos-spread : (n : ℕ) (a b : ℤ) → pos n *ℤ (a +ℤ b) ≡ pos n *ℤ a +ℤ pos n *ℤ b
-pos-spread zero a b = rw (zero-*ℤ (a +ℤ b), zero-*ℤ a, zero-*ℤ b)
-pos-spread (suc n) a b =
+pos-distributes : (n : ℕ) (a b : ℤ) → pos n *ℤ (a +ℤ b) ≡ pos n *ℤ a +ℤ pos n *ℤ b
+pos-distributes zero a b = rw (zero-*ℤ (a +ℤ b), zero-*ℤ a, zero-*ℤ b)
+pos-distributes (suc n) a b =
     sucℤ-*ℤ (pos n) (a +ℤ b)
-    ∙ ap (λ (t : ℤ). t +ℤ (a +ℤ b)) (pos-spread n a b)
+    ∙ ap (λ (t : ℤ). t +ℤ (a +ℤ b)) (pos-distributes n a b)
     ∙ four-terms (pos n *ℤ a) (pos n *ℤ b) a b
     ∙ sym (rw (sucℤ-*ℤ (pos n) a, sucℤ-*ℤ (pos n) b) refl)
 
 minus-times : (n : ℕ) (z : ℤ) → negsuc n *ℤ z ≡ negℤ (pos (suc n) *ℤ z)
 minus-times n z = *ℤ-comm (negsuc n) z ∙ *ℤ-negsuc z n ∙ ap negℤ (*ℤ-comm z (pos (suc n)))
 
-pub spread : (k a b : ℤ) → k *ℤ (a +ℤ b) ≡ k *ℤ a +ℤ k *ℤ b
-spread (pos n) a b = pos-spread n a b
-spread (negsuc n) a b =
+pub distributes : (k a b : ℤ) → k *ℤ (a +ℤ b) ≡ k *ℤ a +ℤ k *ℤ b
+distributes (pos n) a b = pos-distributes n a b
+distributes (negsuc n) a b =
     minus-times n (a +ℤ b)
-    ∙ ap negℤ (pos-spread (suc n) a b)
+    ∙ ap negℤ (pos-distributes (suc n) a b)
     ∙ negℤ-+ℤ (pos (suc n) *ℤ a) (pos (suc n) *ℤ b)
     ∙ sym (rw (minus-times n a, minus-times n b) refl)
 
@@ -95,11 +96,11 @@ tap-size tap a some =
     rw (size-mul tap a) (omega arith)
 
 pub pair-size : (tap a b : ℤ) → natAbs (tap *ℤ (a +ℤ b)) ≤ natAbs (tap *ℤ a) + natAbs (tap *ℤ b)
-pair-size tap a b = rw (spread tap a b) (size-add (tap *ℤ a) (tap *ℤ b))
+pair-size tap a b = rw (distributes tap a b) (size-add (tap *ℤ a) (tap *ℤ b))
 
 -- a number below 2^31 in size fits 32 bits
-pub slight : (z : ℤ) → natAbs z < 2 ^ 31 → fits32 z ≡ true
-slight z h = below-fits32 z (omega (arith, mag-size z))
+pub size-fits32 : (z : ℤ) → natAbs z < 2 ^ 31 → fits32 z ≡ true
+size-fits32 z h = below-fits32 z (omega (arith, mag-size z))
 
 -- sums of the same numbers
 pub sum-same : (f g : ℕ → ℤ) (n : ℕ) → ((i : ℕ) → i < n → f i ≡ g i) → sumBelow f n ≡ sumBelow g n
@@ -136,27 +137,80 @@ around-none f m r = sym (+ℤ-idr r)
 pub around-all : (f : ℕ → ℤ) (m : ℕ) → around f m m ≡ sumBelow f (2 * m)
 around-all f m = sum-same (λ i. f (m - m + i)) f (2 * m) (λ i h. ap f (omega arith))
 
--- What is left of a whole beside r, in c equal shares: a number that c times fits there is no larger than a share, and c shares fit.
-abbrev pub share : ℕ → ℕ → ℕ → ℕ
-share whole c r = (whole - r) / c
-
-pub keeps-share : (whole c r a : ℕ) → 1 ≤ c → c * a + r ≤ whole → a ≤ share whole c r
-keeps-share whole c r a some h = le-div-iff-mul-le {k = c} {x = a} {y = whole - r} some .1 (rw (mul-comm a c) (omega arith))
-
-pub shares-fit : (whole c r n : ℕ) → n ≤ c → r ≤ whole → r + n * share whole c r ≤ whole
-shares-fit whole c r n few h =
-    let most : n * share whole c r ≤ c * share whole c r = mul-le-mul-right (share whole c r) few in
-    omega (arith, mul-div-le (whole - r) c)
-
 -- What one pair more around the middle of 2 * half numbers makes of the sum.
 module _ (f : ℕ → ℤ) (half j : ℕ) (inside : j < half) where
   pub pair-added : (r s tap a b : ℤ) → s ≡ r +ℤ around f half j → f (half - 1 - j) ≡ tap *ℤ a → f (half + j) ≡ tap *ℤ b
       → s +ℤ tap *ℤ (a +ℤ b) ≡ r +ℤ around f half (j + 1)
   pair-added r s tap a b so low high =
-      rw (so, spread tap a b) (
+      rw (so, distributes tap a b) (
       rw (low, high) at (+ℤ-assoc r (around f half j) (f (half - 1 - j) +ℤ f (half + j)))
       ∙ ap (λ (t : ℤ). r +ℤ t) (rw (low, high) at (around-more f half j inside))
       )
+
+-- The same of sizes: from the front, over the 2j numbers around m, one pair more, and all of them.
+pub sizes-front : (f : ℕ → ℤ) (n : ℕ) → sizesBelow f (suc n) ≡ natAbs (f 0) + sizesBelow (λ i. f (suc i)) n
+unfolding sizesBelow
+sizes-front f zero = omega arith
+sizes-front f (suc n) = omega (arith, sizes-front f n)
+
+sizes-same : (f g : ℕ → ℤ) (n : ℕ) → ((i : ℕ) → i < n → f i ≡ g i) → sizesBelow f n ≡ sizesBelow g n
+unfolding sizesBelow
+sizes-same f g zero same = refl
+sizes-same f g (suc n) same = rw (sizes-same f g n (λ i h. same i (omega arith)), same n (omega arith))
+
+abbrev pub sizesAround : (ℕ → ℤ) → ℕ → ℕ → ℕ
+sizesAround f m j = sizesBelow (λ i. f (m - j + i)) (2 * j)
+
+pub sizes-around-more : (f : ℕ → ℤ) (m j : ℕ) → j < m → sizesAround f m j + (natAbs (f (m - 1 - j)) + natAbs (f (m + j))) ≡ sizesAround f m (j + 1)
+unfolding sizesBelow
+sizes-around-more f m j inside =
+    let g : ℕ → ℤ = λ i. f (m - (j + 1) + i) in
+    let two : 2 * (j + 1) ≡ suc (suc (2 * j)) = omega arith in
+    let low : m - (j + 1) + 0 ≡ m - 1 - j = omega arith in
+    let high : m - (j + 1) + suc (2 * j) ≡ m + j = omega arith in
+    let inner : sizesBelow (λ i. g (suc i)) (2 * j) ≡ sizesAround f m j = sizes-same (λ i. g (suc i)) (λ i. f (m - j + i)) (2 * j) (λ i h. ap f (omega arith)) in
+    let front : sizesBelow g (suc (2 * j)) ≡ natAbs (f (m - 1 - j)) + sizesAround f m j = sizes-front g (2 * j) ∙ rw (inner, low) refl in
+    let back : natAbs (g (suc (2 * j))) ≡ natAbs (f (m + j)) = ap (λ (i : ℕ). natAbs (f i)) high in
+    rw two (omega (arith, front, back))
+
+pub sizes-around-all : (f : ℕ → ℤ) (m : ℕ) → sizesAround f m m ≡ sizesBelow f (2 * m)
+sizes-around-all f m = sizes-same (λ i. f (m - m + i)) f (2 * m) (λ i h. ap f (omega arith))
+
+-- one number, and two, are no larger than all
+sizes-one : (f : ℕ → ℤ) (n i : ℕ) → i < n → natAbs (f i) ≤ sizesBelow f n
+unfolding sizesBelow
+sizes-one f zero i h = absurd (omega arith)
+sizes-one f (suc n) i h =
+    elim (decLt i n) [
+      | yes before ↦ omega (arith, sizes-one f n i before)
+      | no last ↦
+          let at : i ≡ n = omega arith in
+          rw at (omega arith)
+    ]
+
+pub sizes-two : (f : ℕ → ℤ) (n i k : ℕ) → i < k → k < n → natAbs (f i) + natAbs (f k) ≤ sizesBelow f n
+unfolding sizesBelow
+sizes-two f zero i k apart h = absurd (omega arith)
+sizes-two f (suc n) i k apart h =
+    elim (decLt k n) [
+      | yes before ↦ omega (arith, sizes-two f n i k apart before)
+      | no last ↦
+          let at : k ≡ n = omega arith in
+          rw at (omega (arith, sizes-one f n i (omega arith)))
+    ]
+
+-- a sum is no larger than its sizes, and sizes of products with numbers of at most m are at most m times those of the factors
+pub sum-sizes : (f : ℕ → ℤ) (n : ℕ) → natAbs (sumBelow f n) ≤ sizesBelow f n
+unfolding sumBelow sizesBelow
+sum-sizes f zero = omega arith
+sum-sizes f (suc n) = omega (arith, sum-sizes f n, size-add (sumBelow f n) (f n))
+
+pub sizes-product : (f v : ℕ → ℤ) (m n : ℕ) → ((i : ℕ) → i < n → natAbs (v i) ≤ m) → sizesBelow (λ i. f i *ℤ v i) n ≤ sizesBelow f n * m
+unfolding sizesBelow
+sizes-product f v m zero small = omega arith
+sizes-product f v m (suc n) small =
+    let one : natAbs (f n *ℤ v n) ≤ natAbs (f n) * m = size-mul-most (f n) (v n) (natAbs (f n)) m (le-refl (natAbs (f n))) (small n (omega arith)) in
+    rw (add-mul (sizesBelow f n) (natAbs (f n)) m) (omega (arith, one, sizes-product f v m n (λ i h. small i (omega arith))))
 
 -- a tap of 0 adds nothing
 pub zero-added : (s z : ℤ) → s ≡ s +ℤ pos 0 *ℤ z

@@ -7,31 +7,31 @@ ghost use lib.Signed.{mag};
 ghost use Rattle.base.specs.Fill.{fill};
 ghost use Rattle.lines.specs.Buffers.{Within};
 
-// How large the numbers of a line are from a place on: none is larger than the answer and 1.
-pub fn measure(line: &[i32], place: usize, width: usize) -> u32
-    requires { ⌜ place + width ≤ length (now line) ⌝ }
-    ensures { λ r. ⌜ Within (now (line .entry)) place width (suc r) ⌝ }
+// How large the numbers of a line are from an index on: none is larger than the answer and 1.
+pub fn measure(line: &[i32], start: usize, width: usize) -> u32
+    requires { ⌜ start + width ≤ length (now line) ⌝ }
+    ensures { λ r. ⌜ Within (now (line .entry)) start width (suc r) ⌝ }
 {
     let mut most = 0u32;
     let mut x = 0;
     while x < width {
-        most = join(most, magnitude(line[place + x]));
+        most = join(most, magnitude(line[start + x]));
         x += 1;
     }
     most
 }
 
-// Copies n entries from a place of one plane to a place of another, and measures them.
-pub fn copy_measured(plane: &mut [i32], place: usize, source: &[i32], from: usize, n: usize) -> u32
-    requires { ⌜ (place + n ≤ length (now plane)) × (from + n ≤ length (now source)) ⌝ }
-    ensures copied { λ _. ⌜ now (plane .exit) ≡ fill (now (plane .entry)) place n (λ x. getD (now (source .entry)) (from + x) (pos 0)) ⌝ }
+// Copies n entries from an index of one plane to an index of another, and measures them.
+pub fn copy_measured(plane: &mut [i32], start: usize, source: &[i32], from: usize, n: usize) -> u32
+    requires { ⌜ (start + n ≤ length (now plane)) × (from + n ≤ length (now source)) ⌝ }
+    ensures copied { λ _. ⌜ now (plane .exit) ≡ fill (now (plane .entry)) start n (λ x. getD (now (source .entry)) (from + x) (pos 0)) ⌝ }
     ensures measured { λ r. ⌜ Within (now (source .entry)) from n (suc r) ⌝ }
 {
     let mut most = 0u32;
     let mut x = 0;
     while x < n {
         let v = source[from + x];
-        plane[place + x] = v;
+        plane[start + x] = v;
         most = join(most, magnitude(v));
         x += 1;
     }

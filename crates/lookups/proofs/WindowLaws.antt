@@ -12,11 +12,11 @@ use lib.Dec.{leb, ltb}
 use lib.ListN.{length, getD}
 use lib.Pow.{pow-pos, pow-add, high, low, field, shr-shr}
 use borrow.Author.Tests.{ltb-true, leb-true, lt-ltb, le-leb, lt-leb}
-use Rattle.base.proofs.Everys.{and-left, and-right}
+use Rattle.base.proofs.Booleans.{and-left, and-right}
 use Rattle.exp_golomb.specs.Bits.{bitAt, present}
 use Rattle.exp_golomb.specs.Begins.{Begins}
-use Rattle.lookups.specs.Lookups.{bitsFrom, Window, isWindow, windowOf, Ahead}
-use Rattle.exp_golomb.proofs.BitLaws.{bit-small}
+use Rattle.lookups.specs.Lookups.{bitsFrom, WindowThere, isWindow, windowOf, Ahead}
+use Rattle.exp_golomb.proofs.BitsLaws.{bit-small}
 
 -- a shift up and a shift down are one shift down
 pub shifted : (w z j k : ℕ) → z ≤ k → w * 2 ^ z % 2 ^ (j + k) / 2 ^ k ≡ w / 2 ^ (k - z) % 2 ^ j
@@ -196,7 +196,7 @@ module _ (bytes : List ℕ) (end at : ℕ) where
   window-past past = rw (lt-leb (at + 56) end past) refl
 
 -- a window that passes the test is there
-pub is-window : (bytes : List ℕ) (end at : ℕ) → isWindow bytes end at ≡ true → Window bytes end at
+pub is-window : (bytes : List ℕ) (end at : ℕ) → isWindow bytes end at ≡ true → WindowThere bytes end at
 unfolding isWindow
 is-window bytes end at e =
     record {
@@ -205,7 +205,7 @@ is-window bytes end at e =
     }
 
 -- a window is 56 bits ahead
-pub window-ahead : (bytes : List ℕ) (end at w : ℕ) → Window bytes end at → w / 256 ≡ bitsFrom bytes at 56 → Ahead bytes end w at 56
+pub window-ahead : (bytes : List ℕ) (end at w : ℕ) → WindowThere bytes end at → w / 256 ≡ bitsFrom bytes at 56 → Ahead bytes end w at 56
 window-ahead bytes end at w there top = record { few = omega arith; top = top; inside = omega (arith, there .before-end, there .eight-bytes) }
 
 -- the bits ahead in data are ahead in data that begin with them

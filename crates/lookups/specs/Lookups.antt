@@ -18,7 +18,7 @@ bitsFrom bytes i zero = 0
 bitsFrom bytes i (suc n) = 2 * bitsFrom bytes i n + bitAt bytes (i + n)
 
 -- The 56 bits from a bit on are there, and so are eight bytes from its own on.
-pub record Window (bytes : List ℕ) (end at : ℕ) : Type 0 where
+pub record WindowThere (bytes : List ℕ) (end at : ℕ) : Type 0 where
   pub before-end : at + 56 ≤ end
   pub eight-bytes : at / 8 + 7 < length bytes
 

@@ -15,8 +15,9 @@ use lib.Signed.{mag}
 use Rattle.base.specs.Floor.{floorDiv}
 use Rattle.base.specs.Range.{fits32}
 use Rattle.base.specs.Walk.{walk}
-use Rattle.base.proofs.Magnitudes.{mag-size, size-mag, size-add, size-floor}
-use Rattle.base.proofs.Walks.{walk-next, walk-stays, walk-stopped, walk-holds}
+use Rattle.base.proofs.Integers.{mag-size, size-mag, size-add}
+use Rattle.base.proofs.FloorLaws.{size-floor}
+use Rattle.base.proofs.WalkLaws.{walk-next, walk-stays, walk-stopped, walk-holds}
 use Rattle.prediction.specs.Prediction.{Predicted, ended, meanOf, predictor, storePredicted, predictedValue, predictedRow, prediction}
 
 -- the sums of three values of a plane fit 64 bits, and their mean is small

@@ -1,3 +1,3 @@
-pub mod LentLaws
-pub mod EntryLaws
+-- The laws of the output and of its parts, and that it is its parts.
 pub mod OutputLaws
+pub mod PartsLaws

@@ -3,16 +3,16 @@ mod lines;
 mod planes;
 
 ghost use mathlib.Core.Path.{_≡_};
-ghost use Prim.Native.Nat.{_+_, _*_, _≤_, _<_};
+ghost use Prim.Native.Nat.{_≤_, _<_};
 ghost use lib.ListN.{length, take};
 ghost use Rattle.io.specs.Counts.{Counts};
-ghost use Rattle.component.specs.Checks.{areaOf};
 ghost use Rattle.contents.specs.Table.{entryCount};
-ghost use Rattle.text.specs.Text.{Put};
-ghost use Rattle.recording.specs.Output.{lentPlane, entryDecoded, entryLines, entryText, part};
+ghost use Rattle.text.specs.Put.{Put};
+ghost use Rattle.recording.specs.Output.{planeLength, sampleLength, entryDecoded, resultLines, entryText};
+ghost use Rattle.recording.specs.Parts.{part};
 use crate::lines::put_entry;
-use crate::planes::lent_area;
-use crate::planes::lent_samples;
+use crate::planes::plane_length;
+use crate::planes::sample_length;
 use base::plane::zero;
 use component::parameters::Parameters;
 use contents::table::ENTRIES_MOST;
@@ -28,7 +28,7 @@ pub const FILE_ROOM: usize = FILE_MOST + 1;
 // The most parts that a recording decodes to.
 pub const PARTS_MOST: usize = ENTRIES_MOST;
 
-// The largest padded area that an entry is lent planes for.
+// The largest padded area of an entry that is decoded.
 pub const AREA_MOST: usize = 16384;
 
 // Room for the text of a part: 12 bytes for each sample, and 8,192 for the lines' ends and the heading.
@@ -77,9 +77,9 @@ fn entry_text(
     let entry = entry_at(file, k);
     let p = entry.parameters;
     let start = entry.start;
-    let end = start + entry.length;
-    let area = lent_area(p);
-    let count = lent_samples(p);
+    let end = start + entry.size;
+    let area = plane_length(p);
+    let count = sample_length(p);
     decoded_text(
         k,
         p,
@@ -91,7 +91,7 @@ fn entry_text(
     )
 }
 
-// Decodes an entry in planes of the lengths that it is lent, and puts its lines.
+// Decodes an entry in planes of the lengths that it needs, and puts its lines.
 fn decoded_text(
     k: usize,
     p: Parameters,
@@ -101,9 +101,9 @@ fn decoded_text(
     samples: &mut [i32],
     text: &mut [u8],
 ) -> usize
-    requires { ⌜ (length (now coefficients) ≡ length (lentPlane p (areaOf p))) × (length (now work) ≡ length (lentPlane p (areaOf p))) × (length (now samples) ≡ length (lentPlane p (p .width * p .height))) ⌝ }
+    requires { ⌜ (length (now coefficients) ≡ planeLength p) × (length (now work) ≡ planeLength p) × (length (now samples) ≡ sampleLength p) ⌝ }
     requires { ⌜ length (now text) ≡ 204800 ⌝ }
-    ensures { λ r. ⌜ Put 0 (now (text .entry)) (entryLines k p (entryDecoded p (now (body .entry)))) r (now (text .exit)) ⌝ }
+    ensures { λ r. ⌜ Put 0 (now (text .entry)) (resultLines k p (entryDecoded p (now (body .entry)))) r (now (text .exit)) ⌝ }
     ensures { λ r. ⌜ r ≤ 204800 ⌝ }
 {
     zero(coefficients);

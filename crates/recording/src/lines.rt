@@ -1,12 +1,9 @@
 // Document 01, "A recording": the lines of an entry.
 ghost use mathlib.Core.Path.{_≡_};
-ghost use mathlib.Core.Bool.{cond};
-ghost use mathlib.Core.List.{_++_};
 ghost use Prim.Native.Nat.{_+_, _*_, _≤_};
-ghost use lib.Dec.{eqb};
 ghost use lib.ListN.{length};
-ghost use Rattle.text.specs.Text.{Put};
-ghost use Rattle.recording.specs.Output.{heading, sizeText, pictureText, refusalText};
+ghost use Rattle.text.specs.Put.{Put};
+ghost use Rattle.recording.specs.Output.{heading, sizeText, pictureText, refusalText, entryLines};
 use component::parameters::Answer;
 use component::parameters::Parameters;
 use text::put_decimal;
@@ -17,7 +14,9 @@ use text::put_word;
 pub fn put_entry(text: &mut [u8], k: usize, p: Parameters, answer: Answer, samples: &[i32]) -> usize
     requires { ⌜ length (now text) ≡ 204800 ⌝ }
     requires { ⌜ (answer .status ≡ 0 → (length (now samples) ≡ p .width * p .height) × (p .width * p .height ≤ 16384) × (p .height ≤ 4096)) ⌝ }
-    ensures { λ r. ⌜ Put 0 (now (text .entry)) (heading k ++ cond (eqb (answer .status) 0) (pictureText p (now (samples .entry))) (refusalText (answer .status) (answer .place))) r (now (text .exit)) ⌝ }
+    ensures { λ r. ⌜
+        Put 0 (now (text .entry)) (entryLines k p (answer .status) (answer .place) (now (samples .entry))) r (now (text .exit))
+        ⌝ }
     ensures { λ r. ⌜ r ≤ 204800 ⌝ }
 {
     let at = put_heading(text, k);

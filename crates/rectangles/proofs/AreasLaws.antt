@@ -9,7 +9,7 @@ use native.Mathlib.Omega.{arith}
 use lib.IntN.{ℤ, pos}
 use lib.ListN.{length, getD, set}
 use Rattle.base.specs.Walk.{walk}
-use Rattle.base.proofs.Walks.{walk-past, walk-flat, walk-up-to}
+use Rattle.base.proofs.WalkLaws.{walk-past, walk-flat, walk-up-to}
 use Rattle.coefficients.specs.Reading.{Run, value, rectangleValues}
 use Rattle.coefficients.specs.Values.{entry, entries}
 use Rattle.coefficients.specs.declared.reading.Rectangle.{Rectangle}

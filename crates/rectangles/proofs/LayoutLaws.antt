@@ -1,7 +1,7 @@
 -- Laws of layouts: in short rows the reciprocal divides by the width, and in a wide row the gaps before it are counted; so the values are those
 -- of the rectangle.
 -- Assumes nothing.
-use mathlib.Core.Path.{_≡_, refl, ap, _∙_}
+use mathlib.Core.Path.{_≡_, ap, _∙_}
 use Prim.Native.Nat.{ℕ, _+_, _-_, _*_, _/_, _≤_, _<_}
 use native.Mathlib.Nat.{add-mul, mul-zero, mul-le-mul, mul-le-mul-right, div-le-self, div-eq-of-lt-le}
 use native.Mathlib.Omega.{arith}
@@ -10,7 +10,7 @@ use Rattle.coefficients.specs.Values.{indexOf}
 use Rattle.coefficients.specs.declared.reading.Rectangle.{Rectangle}
 use Rattle.coefficients.specs.declared.values.Layout.{Layout}
 use Rattle.rectangles.specs.Areas.{sizeOf, valueIndex, Covers}
-use Rattle.rectangles.proofs.AreasLaws.{InArea, in-area, raster-index}
+use Rattle.rectangles.proofs.AreasLaws.{in-area, raster-index}
 
 module _ (a : Rectangle) (wide : a .width ≤ a .stride) (i : ℕ) (below : i < sizeOf a) where
   -- a value stands after as many gaps as there are rows before its own

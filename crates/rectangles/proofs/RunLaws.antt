@@ -9,11 +9,11 @@ use native.Mathlib.Decide.{decLt}
 use native.Mathlib.Omega.{arith}
 use lib.IntN.{ℤ, pos}
 use lib.ListN.{length, getD, set}
-use Rattle.base.proofs.Walks.{walk-same}
+use Rattle.base.proofs.WalkLaws.{walk-same}
 use Rattle.exp_golomb.specs.Begins.{Begins}
-use Rattle.exp_golomb.proofs.Moved.{begins-itself}
+use Rattle.exp_golomb.proofs.BeginsLaws.{begins-itself}
 use Rattle.coefficients.specs.Reading.{Run, goesOn, value}
-use Rattle.coefficients.specs.Values.{after, indexOf, entry, entries, Ready, Sound, NearEnd, Reads}
+use Rattle.coefficients.specs.Values.{after, indexOf, entry, entries, Ready, Sound, CloseToEnd, Reads}
 use Rattle.coefficients.specs.declared.reading.Cursor.{Cursor}
 use Rattle.coefficients.specs.declared.reading.Portion.{Portion}
 use Rattle.coefficients.specs.declared.reading.Progress.{Progress}
@@ -139,20 +139,20 @@ module _ (bytes : List ℕ) (c : Cursor) (scale : ℕ → ℕ) (a : Rectangle) (
         kept = sofar .kept;
         clear = sofar .clear;
         before-end = sofar .before-end;
-        near = λ e. true-never (sym e);
+        close-to-end = λ e. true-never (sym e);
         full = λ e. refl;
         over = λ next e f. over next e;
       }
 
-  pub reads-short : NearEnd bytes (c .end) progress → (c .stated ≡ true → true ≡ false) → ReadsOn bytes c scale a from plane (record { count = count; progress = progress; short = true }) last
-  reads-short near full =
+  pub reads-short : CloseToEnd bytes (c .end) progress → (c .stated ≡ true → true ≡ false) → ReadsOn bytes c scale a from plane (record { count = count; progress = progress; short = true }) last
+  reads-short close-to-end full =
       record {
         values = sofar .values;
         onward = sofar .onward;
         kept = sofar .kept;
         clear = sofar .clear;
         before-end = sofar .before-end;
-        near = λ e. near;
+        close-to-end = λ e. close-to-end;
         full = full;
         over = λ next e f. true-never f;
       }

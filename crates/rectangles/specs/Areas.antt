@@ -8,7 +8,7 @@ use lib.IntN.{ℤ, pos}
 use lib.ListN.{length, getD}
 use Rattle.exp_golomb.specs.Begins.{Begins}
 use Rattle.coefficients.specs.Reading.{Run, goesOn}
-use Rattle.coefficients.specs.Values.{after, indexOf, entries, Clear, NearEnd}
+use Rattle.coefficients.specs.Values.{after, indexOf, entries, Clear, CloseToEnd}
 use Rattle.coefficients.specs.declared.reading.Cursor.{Cursor}
 use Rattle.coefficients.specs.declared.reading.Portion.{Portion}
 use Rattle.coefficients.specs.declared.reading.Progress.the-variants.{At}
@@ -52,6 +52,6 @@ pub record ReadsOn (bytes : List ℕ) (c : Cursor) (scale : ℕ → ℕ) (a : Re
   pub kept : (j : ℕ) → ((i : ℕ) → i < sizeOf a → valueIndex a i ≢ j) → getD last j (pos 0) ≡ getD plane j (pos 0)
   pub clear : ClearFrom a (r .count) last
   pub before-end : (next : ℕ) → r .progress ≡ At next → next ≤ c .end
-  pub near : r .short ≡ true → NearEnd bytes (c .end) (r .progress)
+  pub close-to-end : r .short ≡ true → CloseToEnd bytes (c .end) (r .progress)
   pub full : c .stated ≡ true → r .short ≡ false
   pub over : (next : ℕ) → r .progress ≡ At next → r .short ≡ false → sizeOf a ≤ r .count

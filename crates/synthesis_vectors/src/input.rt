@@ -31,9 +31,9 @@ pub(crate) fn read_plane(plane: &mut [i32]) -> bool {
     true
 }
 
-// Reads one coefficient from the input into a place of a plane. False where the input ends before it.
-fn read_coefficient(plane: &mut [i32], place: usize) -> bool
-    requires { ⌜ place < length (now plane) ⌝ }
+// Reads one coefficient from the input into an entry of a plane. False where the input ends before it.
+fn read_coefficient(plane: &mut [i32], index: usize) -> bool
+    requires { ⌜ index < length (now plane) ⌝ }
 {
     let mut bytes = [0u8; 4];
     if io::read_full(STDIN_FILENO, &mut bytes) < 4 {
@@ -41,7 +41,7 @@ fn read_coefficient(plane: &mut [i32], place: usize) -> bool
     }
     let high = two_bytes(bytes[0], bytes[1]);
     let low = two_bytes(bytes[2], bytes[3]);
-    plane[place] = twos_complement(high * 65536 + low);
+    plane[index] = twos_complement(high * 65536 + low);
     true
 }
 

@@ -1,28 +1,30 @@
 // Runs synthesise on the jobs of the standard input and writes what each gives to the standard output. The independent decoder made the
-// stored input and the output that is owed, and says what they look like (host/reference/src/vectors.rs).
+// stored input and the expected output, and says what they look like (host/reference/src/vectors.rs).
 mod input;
 mod output;
 
-ghost use mathlib.Core.Path.{_≡_};
-ghost use mathlib.Core.Bool.{true};
 ghost use Prim.Native.Nat.{_*_, _≤_};
 ghost use lib.ListN.{length};
 use crate::input::parameters_of;
 use crate::input::read_plane;
 use crate::output::print_answer;
 use crate::output::print_rows;
+use component::checks::area_within;
+use component::checks::padded_area;
 use component::parameters::Parameters;
-use component::sizes::padded_size;
 use libc::STDIN_FILENO;
 use libc::STDOUT_FILENO;
 use vector_io::bad_input;
 use vector_io::fill_plane;
 
+// The most coefficients of a job, and so the most samples.
+const AREA_MOST: usize = 65536;
+
 // Runs the jobs of the input. A proved loop has to end, so this one counts its turns down, from a number that no run uses up.
 fn main() {
-    let mut coefficients = [0i32; 65536];
-    let mut work = [0i32; 65536];
-    let mut samples = [0i32; 65536];
+    let mut coefficients = [0i32; AREA_MOST];
+    let mut work = [0i32; AREA_MOST];
+    let mut samples = [0i32; AREA_MOST];
     let mut turns = u64::MAX;
     while turns > 0 && run_next(&mut coefficients, &mut work, &mut samples) {
         turns -= 1;
@@ -31,9 +33,9 @@ fn main() {
 
 // Reads the next job and runs it, in planes of the largest size. Answers whether the input may have another.
 fn run_next(
-    coefficients: &mut [i32; 65536],
-    work: &mut [i32; 65536],
-    samples: &mut [i32; 65536],
+    coefficients: &mut [i32; AREA_MOST],
+    work: &mut [i32; AREA_MOST],
+    samples: &mut [i32; AREA_MOST],
 ) -> bool {
     let mut header = [0u8; 6];
     let got = io::read_full(STDIN_FILENO, &mut header);
@@ -71,28 +73,11 @@ fn run_job(p: Parameters, coefficients: &mut [i32], work: &mut [i32], samples: &
 fn coefficient_count(p: Parameters) -> usize
     ensures { λ r. ⌜ (r ≤ 65536) × (1 ≤ r → (1 ≤ p .width) × (p .width * p .height ≤ r)) ⌝ }
 {
-    if !size_in_range(p.width) {
-        return 0;
+    if area_within(p, AREA_MOST) {
+        padded_area(p)
+    } else {
+        0
     }
-    if !size_in_range(p.height) {
-        return 0;
-    }
-    if p.depth > 4 {
-        return 0;
-    }
-    let depth = p.depth as usize;
-    let area = padded_size(depth, p.width as usize) * padded_size(depth, p.height as usize);
-    if area > 65536 {
-        return 0;
-    }
-    area
-}
-
-// Whether a width or height is in range.
-fn size_in_range(size: u32) -> bool
-    ensures { λ r. ⌜ (r ≡ true → (1 ≤ size) × (size ≤ 4096)) ⌝ }
-{
-    1 <= size && size <= 4096
 }
 
 // Synthesises in planes that hold something already, and writes the answer, the samples, and what is wrong with the planes.

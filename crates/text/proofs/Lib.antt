@@ -1,4 +1,3 @@
--- The laws that the proofs of this crate cite, and what the definitions say of some numbers.
-pub mod TextExamples
-pub mod Pieces
-pub mod Places
+-- The laws that the proofs of this crate, and of those above it, cite.
+pub mod PutLaws
+pub mod TextLaws

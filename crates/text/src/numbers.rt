@@ -2,10 +2,11 @@
 ghost use mathlib.Core.List.{_++_};
 ghost use mathlib.Core.Path.{_≡_};
 ghost use Prim.Native.Nat.{_+_, _*_, _≤_};
-ghost use lib.IntN.{natAbs};
 ghost use lib.ListN.{length};
-ghost use Rattle.text.specs.Text.{Put, ascii, decimal, signed, spaced, row, rows};
+ghost use Rattle.text.specs.Put.{Put};
+ghost use Rattle.text.specs.Text.{ascii, decimal, signedText, spaced, rowText, rowsText};
 use crate::put_word;
+use base::signed::magnitude;
 
 // Puts a number's digits.
 pub fn put_decimal(text: &mut [u8], at: usize, n: u64) -> usize
@@ -18,21 +19,10 @@ pub fn put_decimal(text: &mut [u8], at: usize, n: u64) -> usize
     put_word(text, at, &digits[..count])
 }
 
-// A number without its sign.
-pub fn magnitude(number: i32) -> u64
-    ensures { λ r. ⌜ r ≡ natAbs number ⌝ }
-{
-    if number < 0 {
-        (-1 - number) as u64 + 1
-    } else {
-        number as u64
-    }
-}
-
 // Puts a number, with a minus sign where it is negative.
-pub fn put_signed(text: &mut [u8], at: usize, number: i32) -> usize
+fn put_signed(text: &mut [u8], at: usize, number: i32) -> usize
     requires { ⌜ at + 21 ≤ length (now text) ⌝ }
-    ensures { λ r. ⌜ Put at (now (text .entry)) (signed number) r (now (text .exit)) ⌝ }
+    ensures { λ r. ⌜ Put at (now (text .entry)) (signedText number) r (now (text .exit)) ⌝ }
     ensures { λ r. ⌜ r ≤ at + 11 ⌝ }
 {
     if number < 0 {
@@ -46,7 +36,7 @@ pub fn put_signed(text: &mut [u8], at: usize, number: i32) -> usize
 // Puts a space and a number.
 fn put_next(text: &mut [u8], at: usize, number: i32) -> usize
     requires { ⌜ at + 22 ≤ length (now text) ⌝ }
-    ensures { λ r. ⌜ Put at (now (text .entry)) (ascii " " ++ signed number) r (now (text .exit)) ⌝ }
+    ensures { λ r. ⌜ Put at (now (text .entry)) (ascii " " ++ signedText number) r (now (text .exit)) ⌝ }
     ensures { λ r. ⌜ r ≤ at + 12 ⌝ }
 {
     let after = put_word(text, at, b" ");
@@ -69,9 +59,9 @@ fn put_spaced(text: &mut [u8], at: usize, numbers: &[i32]) -> usize
 }
 
 // Puts a row of numbers as a line.
-pub fn put_row(text: &mut [u8], at: usize, numbers: &[i32]) -> usize
+fn put_row(text: &mut [u8], at: usize, numbers: &[i32]) -> usize
     requires { ⌜ at + 12 * length (now numbers) + 21 ≤ length (now text) ⌝ }
-    ensures { λ r. ⌜ Put at (now (text .entry)) (row (now (numbers .entry))) r (now (text .exit)) ⌝ }
+    ensures { λ r. ⌜ Put at (now (text .entry)) (rowText (now (numbers .entry))) r (now (text .exit)) ⌝ }
     ensures { λ r. ⌜ r ≤ at + 12 * length (now (numbers .entry)) + 1 ⌝ }
 {
     if numbers.len() == 0 {
@@ -86,7 +76,7 @@ pub fn put_row(text: &mut [u8], at: usize, numbers: &[i32]) -> usize
 pub fn put_rows(text: &mut [u8], at: usize, numbers: &[i32], width: usize, height: usize) -> usize
     requires { ⌜ length (now numbers) ≡ width * height ⌝ }
     requires { ⌜ at + 12 * (width * height) + height + 21 ≤ length (now text) ⌝ }
-    ensures { λ r. ⌜ Put at (now (text .entry)) (rows width height (now (numbers .entry))) r (now (text .exit)) ⌝ }
+    ensures { λ r. ⌜ Put at (now (text .entry)) (rowsText width height (now (numbers .entry))) r (now (text .exit)) ⌝ }
     ensures { λ r. ⌜ r ≤ at + 12 * (width * height) + height ⌝ }
 {
     let mut end = at;

@@ -1,7 +1,7 @@
 // A word as text.
 ghost use Prim.Native.Nat.{_+_, _≤_};
 ghost use lib.ListN.{length};
-ghost use Rattle.text.specs.Text.{Put};
+ghost use Rattle.text.specs.Put.{Put};
 
 // Puts a word.
 pub fn put_word(text: &mut [u8], at: usize, word: &[u8]) -> usize

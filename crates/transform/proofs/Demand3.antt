@@ -9,12 +9,13 @@ use mathlib.Core.List.{List}
 use Prim.Native.Nat.{ℕ, _*_, _<_}
 use lib.IntN.{ℤ, pos}
 use lib.ListN.{length, getD}
-use Rattle.base.specs.Fill.{zerosLike}
+use Rattle.base.specs.Lists.{zerosLike}
 use Rattle.base.specs.Range.{fits32}
 use Rattle.component.specs.Checks.{sizesInRange, depthInRange, waveletInRange}
 use Rattle.component.specs.declared.parameters.Parameters.{Parameters}
-use Rattle.lifting.specs.Planes.{pictureOf, raster}
-use Rattle.transform.specs.Job.{paddedWidth, paddedHeight, pictureFrom, accepted, transformed, synthesised, analysed, analysisStaysIn32}
+use Rattle.filters.specs.Planes.{pictureOf, raster}
+use Rattle.transform.specs.Job.{pictureFrom, accepted, transformed, synthesised, analysed, analysisStaysIn32}
+use Rattle.component.specs.Sizes.{paddedWidth, paddedHeight}
 use Rattle.transform.proofs.Jobs.{plane-back, samples-back, coefficients-in-range, no-bad-level, no-refusal}
 
 -- padded planes with the same coefficients are the same plane

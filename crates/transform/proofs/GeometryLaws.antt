@@ -10,15 +10,15 @@ use native.Mathlib.Omega.{arith}
 use lib.IntN.{ℤ, pos}
 use lib.ListN.{length, getD}
 use lib.Pow.{pow-pos, shl-exact}
-use Rattle.base.specs.Fill.{zerosLike}
+use Rattle.base.specs.Lists.{zerosLike}
 use Rattle.component.specs.Sizes.{sizeAt, paddedSize}
 use Rattle.component.specs.Checks.{sizesInRange, depthInRange, areaOf}
 use Rattle.component.specs.declared.parameters.Parameters.{Parameters}
-use Rattle.component.proofs.SizeLaws.{sizeAt-power, sizeAt-mono, sizeAt-least, sizeAt-rest, sizeAt-padded, low-some, padded-least, padded-most}
-use Rattle.component.proofs.CheckLaws.{width-least, width-most, height-least, height-most, depth-most}
-use Rattle.lifting.specs.Layout.{Placed}
-use Rattle.lifting.specs.Planes.{pictureOf}
-use Rattle.lifting.specs.declared.columns.Frame.{Frame}
+use Rattle.component.proofs.SizesLaws.{sizeAt-power, sizeAt-mono, sizeAt-least, sizeAt-rest, sizeAt-padded, low-some, padded-least, padded-most}
+use Rattle.component.proofs.ChecksLaws.{width-least, width-most, height-least, height-most, depth-most}
+use Rattle.lifting.specs.Layout.{FrameFits}
+use Rattle.filters.specs.Planes.{pictureOf}
+use Rattle.lifting.specs.declared.frame.Frame.{Frame}
 use Rattle.transform.specs.Geometry.{Geometry, extentOf}
 use Rattle.transform.specs.declared.levels.Extent.{Extent}
 use Rattle.transform.proofs.Rasters.{all-zeros}
@@ -85,7 +85,7 @@ module _ (e : Extent) (area : ℕ) (g : Geometry e area) (m : ℕ) (deep : suc m
 
   -- so a frame of those sizes is placed
   pub placed : (f : Frame) → f .stride ≡ e .«padded_width» * 2 ^ (e .depth - suc m) → f .«band_rows» ≡ sizeAt (e .«low_rows») m → f .«band_columns» ≡ sizeAt (e .«low_columns») m →
-      (plane : List ℤ) → length plane ≡ area → Placed f plane
+      (plane : List ℤ) → length plane ≡ area → FrameFits f plane
   placed f stride rows columns plane long =
       record {
         rows-least = rw rows (sizeAt-least (e .«low_rows») m (g .rows-least));

@@ -14,24 +14,25 @@ use lib.IntN.{ℤ, pos}
 use lib.ListN.{length, getD}
 use borrow.Author.Tests.{eq-eqb, ne-eqb, eqb-true}
 use Rattle.base.specs.Every.{allBelow}
-use Rattle.base.specs.Fill.{zerosLike}
+use Rattle.base.specs.Lists.{zerosLike}
 use Rattle.base.specs.Range.{fits32}
-use Rattle.base.proofs.Fills.{getD-tabulate}
-use Rattle.base.proofs.Everys.{and-left, and-right, and-true, all-at}
-use Rattle.component.specs.Sizes.{sizeAt}
-use Rattle.component.specs.Checks.{sizesInRange, depthInRange, waveletInRange, areaOf, planesFit, refusalOf}
+use Rattle.base.proofs.ListsLaws.{getD-tabulate}
+use Rattle.base.proofs.EveryLaws.{all-at}
+use Rattle.base.proofs.Booleans.{and-left, and-right, and-true}
+use Rattle.component.specs.Sizes.{sizeAt, paddedWidth, paddedHeight, lowWidth, lowHeight}
+use Rattle.component.specs.Checks.{sizesInRange, depthInRange, waveletInRange, areaOf, planesFit, refusalOf, lengthsOf}
 use Rattle.component.specs.declared.parameters.Parameters.{Parameters}
 use Rattle.component.specs.declared.parameters.Lengths.{Lengths}
 use Rattle.component.specs.declared.parameters.Job.the-variants.{Synthesise}
-use Rattle.component.proofs.SizeLaws.{padded-least, low-some, sizeAt-padded}
-use Rattle.component.proofs.CheckLaws.{width-least, height-least, refused-none}
-use Rattle.lifting.specs.Filters.{filterOf}
-use Rattle.lifting.specs.Passes.{Picture}
+use Rattle.component.proofs.SizesLaws.{padded-least, low-some, sizeAt-padded}
+use Rattle.component.proofs.ChecksLaws.{width-least, height-least, refused-none}
+use Rattle.filters.specs.Filters.{filterOf}
+use Rattle.filters.specs.Passes.{Picture}
 use Rattle.transform.specs.Analysis.{analysis}
-use Rattle.lifting.specs.Planes.{pictureOf, raster}
-use Rattle.transform.specs.Job.{Synthesised, paddedWidth, paddedHeight, lowWidth, lowHeight, pictureFrom, badLevel, lengthsOf, analysed, analysisStaysIn32, unchanged, overflowed, accepted, transformed, synthesised}
-use Rattle.lifting.specs.Layout.{Agree}
-use Rattle.lifting.proofs.PassLaws.{AllFit}
+use Rattle.filters.specs.Planes.{pictureOf, raster}
+use Rattle.transform.specs.Job.{SynthesisResult, pictureFrom, badLevel, analysed, analysisStaysIn32, unchanged, overflowed, accepted, transformed, synthesised}
+use Rattle.filters.specs.Pictures.{Agree}
+use Rattle.filters.proofs.PassLaws.{AllFit}
 use Rattle.transform.proofs.LevelLaws.{synthesis-back, synthesis-fits, analysis-in-range}
 use Rattle.transform.proofs.Rasters.{length-raster, picture-raster, raster-is, raster-same}
 
@@ -162,6 +163,6 @@ module _ (p : Parameters) (coefficients work samples : List ℤ) where
   unfolding overflowed accepted
   refused-zeros none some =
       elim (ℕ-discrete (badLevel p coefficients) 0) [
-        | yes fine ↦ absurd (some (ap (λ (s : Synthesised). s .status) (job-accepted none fine)))
+        | yes fine ↦ absurd (some (ap (λ (s : SynthesisResult). s .status) (job-accepted none fine)))
         | no bad ↦ rw (job-overflowed none bad) (refl, refl)
       ]

@@ -9,16 +9,16 @@ use native.Mathlib.Decide.{ℕ-discrete, decLt}
 use native.Mathlib.Omega.{arith}
 use lib.Dec.{eqb}
 use borrow.Author.Tests.{lt-ltb, le-ltb, eq-eqb, ne-eqb}
-use Rattle.base.proofs.Everys.{and-left, and-right}
+use Rattle.base.proofs.Booleans.{and-left, and-right}
 use Rattle.component.specs.Sizes.{sizeAt}
-use Rattle.component.proofs.SizeLaws.{sizeAt-least}
-use Rattle.lifting.specs.Filters.{Filter}
+use Rattle.component.proofs.SizesLaws.{sizeAt-least}
+use Rattle.filters.specs.Filters.{Filter}
 use Rattle.transform.specs.Synthesis.{synthesisPasses, interleave, synthesis, levelFits, firstBadLevel}
 use Rattle.transform.specs.Analysis.{analysisPasses, lowBand, separate, levelAnalysis, analysis, analysisFits}
-use Rattle.lifting.proofs.Lifts.{EvenLength}
-use Rattle.lifting.specs.Layout.{Agree}
-use Rattle.lifting.specs.Passes.{Picture, allNewFit}
-use Rattle.lifting.proofs.PassLaws.{AllFit, runAll-fits, runAll-same, allNewFit-same}
+use Rattle.filters.proofs.LiftingLaws.{EvenLength}
+use Rattle.filters.specs.Pictures.{Agree}
+use Rattle.filters.specs.Passes.{Picture, allNewFit}
+use Rattle.filters.proofs.PassLaws.{AllFit, runAll-fits, runAll-same, allNewFit-same}
 use Rattle.transform.proofs.Undone.{Undo, undo-level}
 
 -- a number from its half and its parity

@@ -3,46 +3,44 @@
 use mathlib.Core.Path.{_≡_, refl, sym, ap, _∙_, subst}
 use mathlib.Core.Bool.{Bool, true, false, cond, _&&_}
 use mathlib.Core.List.{List, [], _∷_, _++_, map}
-use Prim.Native.Nat.{ℕ, _+_, _-_, _*_, _%_, _≤_, _<_}
+use Prim.Native.Nat.{ℕ, _+_, _-_, _*_, _≤_, _<_}
 use native.Mathlib.Decide.{decLt}
 use native.Mathlib.Omega.{arith}
 use lib.IntN.{ℤ}
 use lib.Dec.{ltb}
-use borrow.Author.Tests.{eq-eqb, ne-eqb, lt-ltb, le-ltb}
+use borrow.Author.Tests.{lt-ltb, le-ltb}
 use Rattle.base.specs.Range.{fits32}
-use Rattle.base.proofs.Everys.{and-true, same-test}
+use Rattle.base.proofs.Booleans.{and-true, same-test}
+use Rattle.base.proofs.Parity.{even-test, odd-test}
 use Rattle.lines.specs.Buffers.{shifted}
-use Rattle.lifting.specs.Lifting.{Step}
-use Rattle.lifting.specs.Filters.{Filter}
-use Rattle.lifting.specs.Passes.{Picture, Pass, columns, rows, halve, run, runAll, assigns, newFit, allNewFit}
-use Rattle.lifting.specs.Layout.{Agree, halfPlace}
-use Rattle.lifting.proofs.Lifts.{EvenLength}
-use Rattle.lifting.proofs.PairLaws.{twice-length}
+use Rattle.filters.specs.Lifting.{Step}
+use Rattle.filters.specs.Filters.{Filter}
+use Rattle.filters.specs.Passes.{Picture, Pass, columns, rows, halve, run, runAll, assigns, newFit, allNewFit}
+use Rattle.filters.specs.Pictures.{Agree}
+use Rattle.lifting.specs.Layout.{halfIndex}
+use Rattle.filters.proofs.LiftingLaws.{EvenLength}
+use Rattle.filters.proofs.LiftingLaws.{twice-length}
 use Rattle.lifting.proofs.HalfLaws.{half-inside}
-use Rattle.lifting.proofs.PassLaws.{AllFit, new-each, new-all, runAll-append, allNewFit-append, runAll-same, allNewFit-same}
+use Rattle.filters.proofs.PassLaws.{AllFit, new-each, new-all, runAll-append, allNewFit-append, runAll-same, allNewFit-same}
 use Rattle.transform.specs.Synthesis.{synthesisPasses}
 
--- The column whose place in a row of halves is c.
+-- The column whose index in a row of halves is c.
 unhalved : ℕ → ℕ → ℕ
 unhalved b c = cond (ltb c b) (2 * c) (2 * (c - b) + 1)
 
 module _ (b : ℕ) where
-  -- each place of a row of halves is that of one column
-  half-reached : (c : ℕ) → c < 2 * b → (unhalved b c < 2 * b) × (halfPlace b (unhalved b c) ≡ c)
-  unfolding halfPlace unhalved
-  half-reached c inside =
+  -- each index of a row of halves is that of one column
+  half-covered : (c : ℕ) → c < 2 * b → (unhalved b c < 2 * b) × (halfIndex b (unhalved b c) ≡ c)
+  unfolding halfIndex unhalved
+  half-covered c inside =
       elim (decLt c b) [
-        | yes low ↦
-            let even : 2 * c % 2 ≡ 0 = omega arith in
-            rw (lt-ltb c b low, eq-eqb (2 * c % 2) 0 even) (omega arith, omega arith)
-        | no high ↦
-            let odd : (2 * (c - b) + 1) % 2 ≡ 0 → ⊥ = λ e. omega arith in
-            rw (le-ltb c b (omega arith), ne-eqb ((2 * (c - b) + 1) % 2) 0 odd) (omega arith, omega arith)
+        | yes low ↦ rw (lt-ltb c b low, even-test c) (omega arith, omega arith)
+        | no high ↦ rw (le-ltb c b (omega arith), odd-test (c - b)) (omega arith, omega arith)
       ]
 
   -- A picture whose rows stand as two halves.
   abbrev halved : Picture → Picture
-  halved S row x = S row (halfPlace b x)
+  halved S row x = S row (halfIndex b x)
 
   -- steps on columns go the same way there
   columns-halved : (h w : ℕ) (steps : List Step) (S : Picture) → runAll h w (map columns steps) (halved S) ≡ halved (runAll h w (map columns steps) S)
@@ -57,10 +55,10 @@ module _ (b : ℕ) where
       same-test (newFit h (2 * b) (columns s) (halved S)) (newFit h (2 * b) (columns s) S)
       (λ e. new-all h (2 * b) (columns s) S
       (λ row c r i assigned.
-      let there = half-reached c i in
+      let there = half-covered c i in
       subst (λ (k : ℕ). fits32 (S row k) ≡ true) (there .1) (new-each h (2 * b) (columns s) (halved S) e row (unhalved b c) r (there .0) assigned)))
       (λ e. new-all h (2 * b) (columns s) (halved S)
-      (λ row x r i assigned. new-each h (2 * b) (columns s) S e row (halfPlace b x) r (half-inside b x i) assigned))
+      (λ row x r i assigned. new-each h (2 * b) (columns s) S e row (halfIndex b x) r (half-inside b x i) assigned))
 
   all-new-halved : (h : ℕ) (steps : List Step) (S : Picture) → allNewFit h (2 * b) (map columns steps) (halved S) ≡ allNewFit h (2 * b) (map columns steps) S
   unfolding allNewFit run
@@ -136,7 +134,7 @@ module _ (f : Filter) (bh b : ℕ) (tall : 1 ≤ bh) (wide : 1 ≤ b) (I : Pictu
 
       columns-done : Agree h w (halved b T) filtered
       columns-done row x r i =
-          after row (halfPlace b x) r (half-inside b x i)
+          after row (halfIndex b x) r (half-inside b x i)
           ∙ ap (λ (P : Picture). P row x) (sym (columns-halved b h w (f .steps) S))
           ∙ runAll-same h w evenH evenW byColumns (halved b S) I same row x r i
 
@@ -170,3 +168,13 @@ module _ (f : Filter) (bh b : ℕ) (tall : 1 ≤ bh) (wide : 1 ≤ b) (I : Pictu
           ap (shifted (f .shift)) (runAll-same h w evenH evenW byRows (halved b T) filtered columns-done row x r i)
           ∙ sym (shift-run h w (f .shift) (runAll h w byRows filtered) row x)
           ∙ ap (λ (P : Picture). P row x) (sym level-run)
+
+    -- the test of both kinds of steps is the level's
+    pub level-both :
+        (allNewFit h w byRows (halved b (runAll h w byColumns S)) ≡ true → AllFit h w (λ row x. shifted (f .shift) (runAll h w byRows (halved b (runAll h w byColumns S)) row x)))
+        → allNewFit h w byColumns S && allNewFit h w byRows (halved b (runAll h w byColumns S)) ≡ allNewFit h w (synthesisPasses f) I
+    level-both fit = by (allNewFit h w byColumns S) refl
+      where
+        by : (t : Bool) → allNewFit h w byColumns S ≡ t → allNewFit h w byColumns S && allNewFit h w byRows (halved b (runAll h w byColumns S)) ≡ allNewFit h w (synthesisPasses f) I
+        by true e = rw e (level-told e (runAll h w byColumns S) (λ row x r i. refl) fit)
+        by false e = rw e (level-fails e)

@@ -5,6 +5,7 @@ pub mod Rasters
 pub mod Jobs
 pub mod Demand3
 pub mod BandLaws
+pub mod SweptLevel
 pub mod LevelSteps
 pub mod GeometryLaws
 pub mod Recursion

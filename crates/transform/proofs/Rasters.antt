@@ -7,13 +7,13 @@ use native.Mathlib.Nat.{mod-lt, div-add-mod', div-lt-iff-lt-mul}
 use native.Mathlib.Omega.{arith}
 use lib.Arith.{digits-lt, digits-div, digits-mod}
 use lib.IntN.{ℤ, pos}
-use lib.ListN.{length, replicate, length-replicate, getD-replicate}
+use lib.ListN.{length, length-replicate, getD-replicate}
 use lib.Seq.{ext-getD}
-use Rattle.base.specs.Fill.{zerosLike}
-use Rattle.base.proofs.Fills.{length-tabulate, getD-tabulate}
-use Rattle.lifting.specs.Passes.{Picture}
-use Rattle.lifting.specs.Planes.{pictureOf, raster}
-use Rattle.lifting.specs.Layout.{Agree}
+use Rattle.base.specs.Lists.{zerosLike}
+use Rattle.base.proofs.ListsLaws.{length-tabulate, getD-tabulate}
+use Rattle.filters.specs.Passes.{Picture}
+use Rattle.filters.specs.Planes.{pictureOf, raster}
+use Rattle.filters.specs.Pictures.{Agree}
 
 module _ (h w : ℕ) where
   -- a plane of h rows of w numbers

@@ -6,14 +6,14 @@ use mathlib.Core.Bool.{true, false}
 use Prim.Native.Nat.{ℕ, suc, _*_, _/_, _≤_}
 use native.Mathlib.Omega.{arith}
 use borrow.Author.Tests.{eq-eqb, ne-eqb}
-use Rattle.base.proofs.Everys.{same-test}
+use Rattle.base.proofs.Booleans.{same-test}
 use Rattle.component.specs.Sizes.{sizeAt}
-use Rattle.component.proofs.SizeLaws.{sizeAt-least}
-use Rattle.lifting.specs.Filters.{Filter}
-use Rattle.lifting.specs.Layout.{Agree}
-use Rattle.lifting.specs.Passes.{Picture, runAll, allNewFit}
-use Rattle.lifting.proofs.PairLaws.{twice-length}
-use Rattle.lifting.proofs.PassLaws.{runAll-same, allNewFit-same}
+use Rattle.component.proofs.SizesLaws.{sizeAt-least}
+use Rattle.filters.specs.Filters.{Filter}
+use Rattle.filters.specs.Pictures.{Agree}
+use Rattle.filters.specs.Passes.{Picture, runAll, allNewFit}
+use Rattle.filters.proofs.LiftingLaws.{twice-length}
+use Rattle.filters.proofs.PassLaws.{runAll-same, allNewFit-same}
 use Rattle.transform.specs.Synthesis.{synthesisPasses, interleave, synthesis, levelFits, firstBadLevel}
 
 -- interleaving pictures that agree

@@ -9,12 +9,12 @@ use native.Mathlib.Numerals.{add-two}
 use native.Mathlib.Omega.{arith}
 use lib.IntN.{ℤ, pos, negsuc, _+ℤ_, _*ℤ_, sucℤ, +ℤ-one}
 use Rattle.base.specs.Floor.{floorDiv}
-use Rattle.base.proofs.Everys.{and-left, and-right, and-true}
-use Rattle.lifting.specs.Lifting.{Step, exchange}
-use Rattle.lifting.specs.Filters.{Filter}
-use Rattle.lifting.specs.Passes.{Picture, Pass, columns, rows, halve, double, run, runAll, allNewFit}
-use Rattle.lifting.proofs.Lifts.{EvenLength, undoes-exchange}
-use Rattle.lifting.proofs.PassLaws.{AllFit, new-all, runAll-fits, runAll-append, allNewFit-append}
+use Rattle.base.proofs.Booleans.{and-left, and-right, and-true}
+use Rattle.filters.specs.Lifting.{Step, exchange}
+use Rattle.filters.specs.Filters.{Filter}
+use Rattle.filters.specs.Passes.{Picture, Pass, columns, rows, halve, double, run, runAll, allNewFit}
+use Rattle.filters.proofs.LiftingLaws.{EvenLength, undoes-exchange}
+use Rattle.filters.proofs.PassLaws.{AllFit, new-all, runAll-fits, runAll-append, allNewFit-append}
 use Rattle.transform.specs.Synthesis.{synthesisPasses}
 use Rattle.transform.specs.Analysis.{undoSteps, analysisPasses}
 

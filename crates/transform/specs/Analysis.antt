@@ -4,9 +4,9 @@ use mathlib.Core.Bool.{Bool, true, cond, _&&_}
 use mathlib.Core.List.{List, [], _∷_, _++_, map, reverse}
 use lib.Dec.{ltb}
 use Rattle.component.specs.Sizes.{sizeAt}
-use Rattle.lifting.specs.Lifting.{Step, exchange}
-use Rattle.lifting.specs.Filters.{Filter}
-use Rattle.lifting.specs.Passes.{Picture, Pass, columns, rows, double, runAll, allNewFit}
+use Rattle.filters.specs.Lifting.{Step, exchange}
+use Rattle.filters.specs.Filters.{Filter}
+use Rattle.filters.specs.Passes.{Picture, Pass, columns, rows, double, runAll, allNewFit}
 
 -- "with the steps in reverse order and types 1 and 2, 3 and 4 exchanged"
 unfoldable pub undoSteps : List Step → List Step

@@ -1,21 +1,18 @@
 -- How the levels of a component share the work plane. These are the code's own forms; no definition of the format rests on them.
-use Prim.Native.Nat.{ℕ, suc, _+_, _-_, _*_, _^_, _≤_, _<_}
+use Prim.Native.Nat.{ℕ, suc, _-_, _*_, _^_, _≤_, _<_}
 use mathlib.Core.Path.{_≡_}
 use mathlib.Core.Bool.{Bool}
 use mathlib.Core.List.{List}
-use lib.IntN.{ℤ, pos}
-use lib.ListN.{length, getD}
-use Rattle.base.specs.Fill.{zerosLike, fill}
-use Rattle.component.specs.Sizes.{sizeAt}
+use lib.IntN.{ℤ}
+use lib.ListN.{length}
+use Rattle.base.specs.Lists.{zerosLike}
+use Rattle.component.specs.Sizes.{sizeAt, paddedWidth, lowHeight, lowWidth}
 use Rattle.component.specs.declared.parameters.Parameters.{Parameters}
-use Rattle.lines.specs.Buffers.{Within}
-use Rattle.lifting.specs.Layout.{Agree}
-use Rattle.lifting.specs.Passes.{Picture, runAll, allNewFit}
-use Rattle.lifting.specs.Planes.{pictureOf}
-use Rattle.lifting.specs.Table.{filterFrom}
-use Rattle.lifting.specs.declared.columns.Frame.{Frame}
-use Rattle.lifting.specs.declared.filters.LiftingFilter.{LiftingFilter}
-use Rattle.transform.specs.Job.{paddedWidth, lowHeight, lowWidth}
+use Rattle.filters.specs.Pictures.{Agree}
+use Rattle.filters.specs.Passes.{Picture, runAll, allNewFit}
+use Rattle.filters.specs.Planes.{pictureOf}
+use Rattle.filters.specs.Table.{filterFrom}
+use Rattle.filters.specs.declared.filter.LiftingFilter.{LiftingFilter}
 use Rattle.transform.specs.Synthesis.{synthesisPasses, interleave, synthesis, firstBadLevel}
 use Rattle.transform.specs.declared.levels.Extent.{Extent}
 
@@ -65,22 +62,6 @@ module _ (f : LiftingFilter) (e : Extent) where
 abbrev pub levelInput : Extent → List ℤ → List ℤ → ℕ → Picture
 levelInput e work coefficients n =
     interleave (sizeAt (e .«low_rows») n) (sizeAt (e .«low_columns») n) (workPicture e n work) (coefficientPicture e coefficients)
-
--- The same in a frame: its bands around the picture that stands in every other row of it.
-abbrev pub bandsAround : Frame → ℕ → List ℤ → List ℤ → Picture
-bandsAround f padded work coefficients = interleave (f .«band_rows») (f .«band_columns») (pictureOf (2 * f .stride) work) (pictureOf padded coefficients)
-
--- A work plane with row r of each band put in a frame: HL beside row r of the picture below, LH and HH into the row after it.
-abbrev pub withBandRow : Frame → ℕ → ℕ → List ℤ → List ℤ → List ℤ
-withBandRow f padded r work coefficients =
-    fill
-    (fill work (2 * r * f .stride + f .«band_columns») (f .«band_columns») (λ x. getD coefficients (r * padded + f .«band_columns» + x) (pos 0)))
-    ((2 * r + 1) * f .stride) (2 * f .«band_columns») (λ x. getD coefficients ((f .«band_rows» + r) * padded + x) (pos 0))
-
--- The numbers in the two rows of pair r are within a size.
-abbrev pub PairWithin : Frame → ℕ → ℕ → List ℤ → Type 0
-PairWithin f r size work =
-    Within work (2 * r * f .stride) (2 * f .«band_columns») size × Within work ((2 * r + 1) * f .stride) (2 * f .«band_columns») size
 
 -- Where the picture of depth n stands in the end: in the work plane; or, where it is the component's, its first rows and columns in the samples,
 -- and the work plane holds zeros.

@@ -4,8 +4,8 @@ use mathlib.Core.Bool.{Bool, cond}
 use mathlib.Core.List.{List, [], _∷_, _++_, map}
 use lib.Dec.{eqb}
 use Rattle.component.specs.Sizes.{sizeAt}
-use Rattle.lifting.specs.Filters.{Filter}
-use Rattle.lifting.specs.Passes.{Picture, Pass, columns, rows, halve, runAll, allNewFit}
+use Rattle.filters.specs.Filters.{Filter}
+use Rattle.filters.specs.Passes.{Picture, Pass, columns, rows, halve, runAll, allNewFit}
 
 -- "filter every column, then every row, then, if the shift is 1, replace each v by floor((v + 1)/2)"
 unfoldable pub synthesisPasses : Filter → List Pass

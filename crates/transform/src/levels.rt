@@ -1,18 +1,18 @@
 // Document 01, "Synthesis and analysis": the levels of synthesis, in the work plane, and the last of them into the samples.
 ghost use mathlib.Core.Path.{_≡_};
 ghost use mathlib.Core.Bool.{true};
-ghost use Prim.Native.Nat.{suc, _-_, _*_, _^_, _≤_, _<_};
+ghost use Prim.Native.Nat.{suc, _-_, _*_, _^_, _≤_};
 ghost use Rattle.component.specs.Sizes.{sizeAt};
-ghost use Rattle.lifting.specs.Table.{WellFormed};
+ghost use Rattle.filters.specs.Table.{WellFormed};
 ghost use Rattle.transform.specs.Geometry.{Planes, coefficientPicture, pictureAt, firstBadAt, levelInput, levelPicture, levelNumbersFit, Stands};
 use crate::bands::copy_rows;
-use crate::bands::interleave_bands;
 use base::plane::zero;
-use lifting::columns::Frame;
-use lifting::columns::filter_columns;
-use lifting::filters::LiftingFilter;
-use lifting::rows::filter_rows;
-use lifting::rows::finish_rows;
+use filters::filter::LiftingFilter;
+use lifting::frame::Frame;
+use sweep::gaps::gap_of;
+use sweep::level::Level;
+use sweep::level::sweep_level;
+use sweep::rows::Crop;
 
 // The sizes of a component: its padded width, the size of its low band, its depth, and the width and height of its samples.
 pub struct Extent {
@@ -105,21 +105,26 @@ fn synthesise_level(
         ⌝ }
 {
     let frame = next_frame(extent, below);
-    let most = interleave_bands(work, coefficients, extent.padded_width, frame);
-    if !filter_columns(work, frame, filter, most) {
-        return false;
-    }
-    if below + 1 < extent.depth {
-        return filter_rows(work, halves, frame, filter);
-    }
-    finish_rows(
+    let gap = gap_of(filter);
+    let finishes = below + 1 == extent.depth;
+    let crop = Crop {
+        width: extent.width,
+        height: extent.height,
+    };
+    let level = Level {
+        frame,
+        gap,
+        finishes,
+        crop,
+    };
+    sweep_level(
         work,
         samples,
+        coefficients,
+        extent.padded_width,
         halves,
-        frame,
+        level,
         filter,
-        extent.width,
-        extent.height,
     )
 }
 

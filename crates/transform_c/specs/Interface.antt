@@ -1,4 +1,4 @@
--- The parameters and answers of the C interface, and those that they stand for.
+-- Document 01, "What the decoder covers": parameters and answers as C passes them, and those that they stand for.
 use mathlib.Core.Bool.{not}
 use lib.Dec.{eqb}
 use Rattle.component.specs.declared.parameters.Parameters.{Parameters}

@@ -11,12 +11,12 @@ use native.Mathlib.Omega.{arith}
 use lib.Dec.{ltb}
 use lib.IntN.{ℤ, pos}
 use lib.ListN.{length, getD, take, drop, length-replicate, getD-replicate, List·getD-eq-default}
-use Rattle.base.specs.Fill.{zerosLike}
+use Rattle.base.specs.Lists.{zerosLike}
 use Rattle.base.proofs.Grids.{rows-apart}
 use Rattle.component.specs.Sizes.{paddedSize}
-use Rattle.component.specs.Subbands.{subbandCount, orientation, leftOf, topOf, subbandAt, Lies}
+use Rattle.component.specs.Subbands.{subbandCount, orientationOf, leftOf, topOf, subbandAt, InSubband}
 use Rattle.component.specs.declared.parameters.Parameters.{Parameters}
-use Rattle.component.proofs.SubbandLaws.{subband-inside}
+use Rattle.component.proofs.SubbandsLaws.{subband-inside}
 use Rattle.component.proofs.Tiling.{tiled}
 use Rattle.coefficients.specs.Quantiser.{dequantise}
 use Rattle.coefficients.specs.Reading.{Run, goesOn, going}
@@ -28,7 +28,7 @@ use Rattle.codeblocks.proofs.CodeblocksLaws.{codeblocks-keep, codeblocks-length
 use Rattle.prediction.specs.Prediction.{prediction}
 use Rattle.prediction.proofs.PredictionLaws.{prediction-keeps, prediction-length}
 use Rattle.unpack.specs.Subband.{headerAt, goesOnAt, subbandData, checkedData, headed, predictedBand, isPredicted, subbandOf, codeblocksOf, subbandFrom, subband}
-use Rattle.unpack.specs.Job.{Unpacked, endedWith, subbandsFrom}
+use Rattle.unpack.specs.Job.{UnpackResult, endedWith, subbandsFrom}
 use Rattle.unpack.specs.Bounds.{Checked, ClearBandsFrom}
 use Rattle.unpack.specs.declared.header.Header.{Header}
 use Rattle.unpack.specs.declared.header.Header.the-variants.{Skipped, Coded, Refused as RefusedHeader}
@@ -85,11 +85,11 @@ strideOf p = paddedSize (p .depth) (p .width)
 
 -- An entry of the plane lies outside subband k.
 abbrev pub Outside : Parameters → ℕ → ℕ → Type 0
-Outside p k j = (row column : ℕ) → Lies (subbandOf p k) row column → row * strideOf p + column ≢ j
+Outside p k j = (row column : ℕ) → InSubband (subbandOf p k) row column → row * strideOf p + column ≢ j
 
 -- a subband that is predicted stands at the top left
-top-left : (p : Parameters) (k : ℕ) → isPredicted p k ≡ true → (row column : ℕ) → row < subbandOf p k .height → column < subbandOf p k .width → Lies (subbandOf p k) row column
-unfolding isPredicted subbandAt orientation leftOf topOf
+top-left : (p : Parameters) (k : ℕ) → isPredicted p k ≡ true → (row column : ℕ) → row < subbandOf p k .height → column < subbandOf p k .width → InSubband (subbandOf p k) row column
+unfolding isPredicted subbandAt orientationOf leftOf topOf
 top-left p zero e row column low inner = record { below-top = omega arith; above-bottom = omega arith; right-of-left = omega arith; left-of-right = omega arith }
 top-left p (suc k) e row column low inner =
     let z : _≡_ {A = ℕ} 0 1 = cc in
@@ -115,7 +115,7 @@ module _ (p : Parameters) (bytes : List ℕ) (k : ℕ) where
 
 -- an entry of one subband lies outside every other
 pub other-outside : (p : Parameters) (k m : ℕ) → k < subbandCount (p .depth) → m < subbandCount (p .depth) → k ≢ m →
-    (row column : ℕ) → Lies (subbandOf p m) row column → Outside p k (row * strideOf p + column)
+    (row column : ℕ) → InSubband (subbandOf p m) row column → Outside p k (row * strideOf p + column)
 other-outside p k m below-k below-m different row column lies row₂ column₂ lies₂ same =
     let inside = subband-inside (p .depth) (p .width) (p .height) m below-m in
     let inside₂ = subband-inside (p .depth) (p .width) (p .height) k below-k in
@@ -125,7 +125,7 @@ other-outside p k m below-k below-m different row column lies row₂ column₂ l
       | yes together ↦
           let rows : row₂ * strideOf p ≡ row * strideOf p = ap (λ (n : ℕ). n * strideOf p) together in
           let columns : column₂ ≡ column = omega arith in
-          let here : Lies (subbandOf p k) row column = rw (together, columns) at lies₂ in
+          let here : InSubband (subbandOf p k) row column = rw (together, columns) at lies₂ in
           let one = tiled (p .depth) (p .width) (p .height) row column (omega (arith, lies .above-bottom, inside .1)) across in
           different (one .alone k below-k here ∙ sym (one .alone m below-m lies))
       | no apart ↦ rows-apart (strideOf p) row₂ row column₂ column apart across₂ across same
@@ -160,7 +160,7 @@ module _ (p : Parameters) (bytes : List ℕ) (checked : Checked p) where
       }
 
   -- what follows a subband keeps an entry, if the subband and each way on from it do
-  ended-keeps : (k at j : ℕ) (plane : List ℤ) (progress : Progress) (after : List ℤ) (go : ℕ → List ℤ → Unpacked) → Lands (Ends bytes at) progress →
+  ended-keeps : (k at j : ℕ) (plane : List ℤ) (progress : Progress) (after : List ℤ) (go : ℕ → List ℤ → UnpackResult) → Lands (Ends bytes at) progress →
       getD after j (pos 0) ≡ getD plane j (pos 0) →
       ((bit : ℕ) (l : List ℤ) → go bit l .status ≡ 0 → getD (go bit l .coefficients) j (pos 0) ≡ getD l j (pos 0)) →
       endedWith k progress after go .status ≡ 0 → getD (endedWith k progress after go .coefficients) j (pos 0) ≡ getD plane j (pos 0)
@@ -170,7 +170,7 @@ module _ (p : Parameters) (bytes : List ℕ) (checked : Checked p) where
 
   -- where the job is accepted, the subbands from k on change no entry of those before k
   pub subbands-keep : (n k at : ℕ) (plane : List ℤ) → k + n ≤ subbandCount (p .depth) → subbandsFrom p bytes n k at plane .status ≡ 0 →
-      (m row column : ℕ) → m < k → Lies (subbandOf p m) row column →
+      (m row column : ℕ) → m < k → InSubband (subbandOf p m) row column →
       getD (subbandsFrom p bytes n k at plane .coefficients) (row * strideOf p + column) (pos 0) ≡ getD plane (row * strideOf p + column) (pos 0)
   unfolding subbandsFrom
   subbands-keep zero k at plane most fine m row column earlier lies = refl

@@ -14,9 +14,9 @@ use Rattle.exp_golomb.specs.Bits.{present, takeBit}
 use Rattle.exp_golomb.specs.Codes.{codeFrom, unsigned}
 use Rattle.exp_golomb.specs.declared.codes.Number.{Number}
 use Rattle.exp_golomb.specs.declared.codes.Number.the-variants.{Read, Missing, TooLong}
-use Rattle.exp_golomb.proofs.BitLaws.{taken}
-use Rattle.exp_golomb.proofs.CodeLaws.{code-missing, code-ends, code-too-long, code-cut, code-goes-on, value-grows}
-use Rattle.exp_golomb.proofs.Extent.{takes, Reach, unsigned-reach, unsigned-same}
+use Rattle.exp_golomb.proofs.BitsLaws.{taken, takes}
+use Rattle.exp_golomb.proofs.CodesLaws.{code-missing, code-ends, code-too-long, code-cut, code-goes-on, value-grows}
+use Rattle.exp_golomb.proofs.Extent.{CodeEnd, unsigned-end, unsigned-same}
 use Rattle.exp_golomb.proofs.Followed.{number-followed}
 use Rattle.unpack.specs.Subband.{boundary, refusedAt, onRead, headerAt}
 use Rattle.unpack.specs.Bounds.{SoundHeader}
@@ -26,7 +26,7 @@ use Rattle.unpack.specs.declared.header.Header.the-variants.{Skipped, Co
 -- a bit is there before an end that is out of its reach just where it is there before the bytes' own end
 present-open : (bytes : List ℕ) (end k : ℕ) → k < end → present bytes end k ≡ present bytes (8 * length bytes) k
 unfolding present
-present-open bytes end k near =
+present-open bytes end k bits-most =
     elim (decLt k (8 * length bytes)) [
       | yes inside ↦
           lt-ltb k (min end (8 * length bytes)) (omega arith) ∙ sym (lt-ltb k (min (8 * length bytes) (8 * length bytes)) (omega arith))
@@ -36,7 +36,7 @@ present-open bytes end k near =
 
 -- so a number with an end that is out of its reach is the number up to the bytes' own end
 pub number-open : (bytes : List ℕ) (end i : ℕ) → i + 62 < end → unsigned bytes end false i ≡ unsigned bytes (8 * length bytes) false i
-number-open bytes end i near = unsigned-same bytes end (8 * length bytes) false i (λ k h. present-open bytes end k (omega arith))
+number-open bytes end i bits-most = unsigned-same bytes end (8 * length bytes) false i (λ k h. present-open bytes end k (omega arith))
 
 -- The size of a number that was read, or 0.
 abbrev sizeRead : Number → ℕ
@@ -119,17 +119,17 @@ module _ (bytes : List ℕ) (at : ℕ) where
 -- A bit to go on at after what starts at another: no earlier, less far than a reach, the first of a byte, and not past the bytes.
 pub record Follows (bytes : List ℕ) (at reach bit : ℕ) : Type 0 where
   pub onward : at ≤ bit
-  pub near : bit ≤ at + reach
+  pub bits-most : bit ≤ at + reach
   pub whole : bit % 8 ≡ 0
   pub within : at ≤ 8 * length bytes → bit ≤ 8 * length bytes
 
 -- the boundary after a number, and after another
-boundary-follows : (bytes : List ℕ) (at next : ℕ) → Reach at 63 (8 * length bytes) next → Follows bytes at 134 (boundary next)
+boundary-follows : (bytes : List ℕ) (at next : ℕ) → CodeEnd at 63 (8 * length bytes) next → Follows bytes at 134 (boundary next)
 unfolding boundary
 boundary-follows bytes at next reach =
     record {
       onward = omega (arith, reach .onward);
-      near = omega (arith, reach .near);
+      bits-most = omega (arith, reach .bits-most);
       whole = omega arith;
       within = λ inside. omega (arith, reach .within inside);
     }
@@ -154,20 +154,20 @@ unfolding headerAt
 header-announced bytes at =
     number-announced bytes at (numberAt bytes at at) _
     (λ size minus next e.
-    let first = unsigned-reach bytes (8 * length bytes) false at size minus next e in
+    let first = unsigned-end bytes (8 * length bytes) false at size minus next e in
     elim (ℕ-discrete size 0) [
       | yes none ↦
           rw (eq-eqb size 0 none)
-          (boundary-follows bytes at next (record { onward = first .onward; near = omega (arith, first .near); within = λ inside. omega (arith, first .within (omega arith)) }))
+          (boundary-follows bytes at next (record { onward = first .onward; bits-most = omega (arith, first .bits-most); within = λ inside. omega (arith, first .within (omega arith)) }))
       | no some ↦
           rw (ne-eqb size 0 some)
           (number-announced bytes at (numberAt bytes at next) _
           (λ index sign end e2.
-          let second = unsigned-reach bytes (8 * length bytes) false next index sign end e2 in (
+          let second = unsigned-end bytes (8 * length bytes) false next index sign end e2 in (
             boundary-follows bytes at end
                 (record {
                   onward = omega (arith, first .onward, second .onward);
-                  near = omega (arith, first .near, second .near);
+                  bits-most = omega (arith, first .bits-most, second .bits-most);
                   within = λ inside. omega (arith, second .within (first .within (omega arith)));
                 }),
             number-small bytes (8 * length bytes) false at size minus next e,
@@ -180,7 +180,7 @@ header-sound bytes at small = by (headerAt bytes at) (header-announced bytes at)
   where
     by : (h : Header) → Announced bytes at h → SoundHeader h
     by (Skipped bit) known = tt
-    by (Coded index bit size) known = (omega (arith, known .0 .near), known .1)
+    by (Coded index bit size) known = (omega (arith, known .0 .bits-most), known .1)
     by (Refused status bit) known = tt
 
 -- A header that was read, and ends before a bit or at it.
@@ -200,8 +200,8 @@ module _ (used a b : List ℕ) (at : ℕ) where
     unfolding boundary
     index-followed some (Read index sign end) e inside =
         let whole = header-read (used ++ a) at size minus next read some index sign end e in
-        let near : boundary end ≤ 8 * length used = rw whole at inside in
-        let last = unsigned-reach (used ++ a) (8 * length (used ++ a)) false next index sign end e in
+        let bits-most : boundary end ≤ 8 * length used = rw whole at inside in
+        let last = unsigned-end (used ++ a) (8 * length (used ++ a)) false next index sign end e in
         header-read (used ++ b) at size minus next (number-followed used a b at size minus next (omega (arith, last .onward)) read) some index sign end
         (number-followed used a b next index sign end (omega arith) e)
         ∙ sym whole
@@ -220,7 +220,7 @@ module _ (used a b : List ℕ) (at : ℕ) where
           elim (ℕ-discrete size 0) [
             | yes none ↦
                 let whole = no-data (used ++ a) at size minus next e none in
-                let near : boundary next ≤ 8 * length used = rw whole at inside in
+                let bits-most : boundary next ≤ 8 * length used = rw whole at inside in
                 no-data (used ++ b) at size minus next (number-followed used a b at size minus next (omega arith) e) none ∙ sym whole
             | no some ↦ index-followed size minus next e some (number next) refl inside
           ]

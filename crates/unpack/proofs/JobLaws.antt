@@ -8,19 +8,19 @@ use native.Mathlib.Omega.{arith}
 use lib.IntN.{ℤ}
 use lib.ListN.{length, length-replicate}
 use borrow.Author.Tests.{eq-eqb, ne-eqb, eqb-true, not-false}
-use Rattle.base.specs.Fill.{zerosLike}
-use Rattle.base.proofs.Everys.{and-left}
-use Rattle.base.proofs.Fills.{zeros-length}
+use Rattle.base.specs.Lists.{zerosLike}
+use Rattle.base.proofs.Booleans.{and-left}
+use Rattle.base.proofs.ListsLaws.{zeros-length}
 use Rattle.component.specs.Checks.{areaOf, planesFit, refusalOf}
 use Rattle.component.specs.Subbands.{subbandCount}
 use Rattle.component.specs.declared.parameters.Parameters.{Parameters}
 use Rattle.component.specs.declared.parameters.Job.the-variants.{Unpack}
-use Rattle.component.proofs.CheckLaws.{passed}
+use Rattle.component.proofs.ChecksLaws.{passed}
 use Rattle.coefficients.specs.Reading.{Run, goesOn, stops}
 use Rattle.coefficients.specs.declared.reading.Progress.{Progress}
 use Rattle.coefficients.specs.declared.reading.Progress.the-variants.{At, Refused}
 use Rattle.unpack.specs.Subband.{subband}
-use Rattle.unpack.specs.Job.{Unpacked, endedWith, subbandsFrom, unpacked}
+use Rattle.unpack.specs.Job.{UnpackResult, endedWith, subbandsFrom, unpacked}
 use Rattle.unpack.specs.Bounds.{Checked}
 
 module _ (p : Parameters) (bytes : List ℕ) (k at : ℕ) (plane : List ℤ) where
@@ -31,7 +31,7 @@ module _ (p : Parameters) (bytes : List ℕ) (k at : ℕ) (plane : List ℤ) whe
 
   -- after one that was accepted, and after one that was refused
   module _ (n : ℕ) where
-    abbrev endsWith : Run → Unpacked
+    abbrev endsWith : Run → UnpackResult
     endsWith r = endedWith k (r .progress) (r .plane) (subbandsFrom p bytes n (suc k))
 
     pub subbands-next : (bit : ℕ) (last : List ℤ) → goesOn bit last ≡ subband p bytes k (goesOn at plane) →
@@ -47,10 +47,10 @@ module _ (p : Parameters) (bytes : List ℕ) (k at : ℕ) (plane : List ℤ) whe
     subbands-stop status bit last e = subst (λ (r : Run). endsWith r ≡ record { status = status; place = k; coefficients = zerosLike last }) e refl
 
 -- An outcome that is no refusal, or leaves zeros.
-abbrev pub ZeroedIfRefused : Unpacked → Type 0
+abbrev pub ZeroedIfRefused : UnpackResult → Type 0
 ZeroedIfRefused u = u .status ≢ 0 → u .coefficients ≡ zerosLike (u .coefficients)
 
-ended-zeroed : (k : ℕ) (progress : Progress) (plane : List ℤ) (go : ℕ → List ℤ → Unpacked) →
+ended-zeroed : (k : ℕ) (progress : Progress) (plane : List ℤ) (go : ℕ → List ℤ → UnpackResult) →
     ((bit : ℕ) (after : List ℤ) → ZeroedIfRefused (go bit after)) → ZeroedIfRefused (endedWith k progress plane go)
 unfolding endedWith zerosLike
 ended-zeroed k (At bit) plane go later some = later bit plane some

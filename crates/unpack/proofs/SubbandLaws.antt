@@ -13,9 +13,9 @@ use Rattle.component.specs.Sizes.{paddedSize}
 use Rattle.component.specs.Checks.{areaOf}
 use Rattle.component.specs.Subbands.{subbandCount, subbandLevel, subbandAt}
 use Rattle.component.specs.declared.parameters.Parameters.{Parameters}
-use Rattle.component.proofs.SizeLaws.{padded-most}
-use Rattle.component.proofs.SubbandLaws.{subband-inside}
-use Rattle.component.proofs.CheckLaws.{width-most, height-most, depth-most, counts-at}
+use Rattle.component.proofs.SizesLaws.{padded-most}
+use Rattle.component.proofs.SubbandsLaws.{subband-inside}
+use Rattle.component.proofs.ChecksLaws.{width-most, height-most, depth-most, counts-at}
 use Rattle.coefficients.specs.Reading.{Run, goesOn, stops, going}
 use Rattle.coefficients.specs.Values.{after}
 use Rattle.coefficients.specs.declared.reading.Progress.the-variants.{At, Refused}

@@ -11,7 +11,7 @@ use lib.IntN.{ℤ}
 use lib.ListN.{length, take, drop, length-append, length-take, length-drop, take-append-drop}
 use lib.Seq.{take-append-le, drop-append-le}
 use borrow.Author.Tests.{le-ltb}
-use Rattle.base.specs.Fill.{zerosLike}
+use Rattle.base.specs.Lists.{zerosLike}
 use Rattle.component.specs.Subbands.{subbandCount}
 use Rattle.component.specs.declared.parameters.Parameters.{Parameters}
 use Rattle.coefficients.specs.Reading.{Run, goesOn, going}
@@ -20,7 +20,7 @@ use Rattle.coefficients.specs.declared.reading.Progress.the-variants.{At, Refus
 use Rattle.codeblocks.specs.declared.CodeblockGrid.{CodeblockGrid}
 use Rattle.prediction.specs.Prediction.{prediction}
 use Rattle.unpack.specs.Subband.{headerAt, goesOnAt, subbandData, checkedData, headed, predictedBand, isPredicted, codeblocksOf, subbandFrom, subband}
-use Rattle.unpack.specs.Job.{Unpacked, endedWith, subbandsFrom, unpacked}
+use Rattle.unpack.specs.Job.{UnpackResult, endedWith, subbandsFrom, unpacked}
 use Rattle.unpack.specs.declared.header.Header.{Header}
 use Rattle.unpack.specs.declared.header.Header.the-variants.{Skipped, Coded, Refused as RefusedHeader}
 use Rattle.unpack.proofs.HeaderLaws.{Announced, header-announced, EndsBy, header-followed}
@@ -106,7 +106,7 @@ module _ (p : Parameters) (used a b : List ℕ) where
       by false h = h
 
   -- what follows a subband is the same, if each way on from it is
-  ended-same : (k at : ℕ) (r s : Run) (goA goB : ℕ → List ℤ → Unpacked) → at ≤ 8 * length (used ++ a) → Lands (Ends (used ++ a) at) (r .progress) →
+  ended-same : (k at : ℕ) (r s : Run) (goA goB : ℕ → List ℤ → UnpackResult) → at ≤ 8 * length (used ++ a) → Lands (Ends (used ++ a) at) (r .progress) →
       (Upto (8 * length used) (r .progress) → s ≡ r) →
       ((bit : ℕ) (after : List ℤ) → bit ≤ 8 * length (used ++ a) → bit % 8 ≡ 0 → goA bit after .status ≡ 0 → Between (used ++ a) bit (goA bit after .place)) →
       ((bit : ℕ) (after : List ℤ) → bit ≤ 8 * length (used ++ a) → bit % 8 ≡ 0 → goA bit after .status ≡ 0 → goA bit after .place ≤ length used → goB bit after ≡ goA bit after) →

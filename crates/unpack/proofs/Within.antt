@@ -12,9 +12,9 @@ use lib.Dec.{eqb, ltb}
 use lib.IntN.{ℤ}
 use lib.ListN.{length}
 use borrow.Author.Tests.{ltb-false}
-use Rattle.base.specs.Fill.{zerosLike}
+use Rattle.base.specs.Lists.{zerosLike}
 use Rattle.base.specs.Range.{fits32}
-use Rattle.base.proofs.Walks.{walk-holds}
+use Rattle.base.proofs.WalkLaws.{walk-holds}
 use Rattle.component.specs.Subbands.{subbandCount}
 use Rattle.component.specs.declared.parameters.Parameters.{Parameters}
 use Rattle.exp_golomb.specs.Bits.{takeBit}
@@ -30,7 +30,7 @@ use Rattle.codeblocks.specs.Codeblocks.{onFlag, codeblockArea, codeblockValues,
 use Rattle.codeblocks.specs.declared.CodeblockGrid.{CodeblockGrid}
 use Rattle.prediction.specs.Prediction.{prediction}
 use Rattle.unpack.specs.Subband.{headerAt, goesOnAt, subbandData, checkedData, headed, predictedBand, isPredicted, codeblocksOf, subbandFrom, subband}
-use Rattle.unpack.specs.Job.{Unpacked, endedWith, subbandsFrom, unpacked}
+use Rattle.unpack.specs.Job.{UnpackResult, endedWith, subbandsFrom, unpacked}
 use Rattle.unpack.specs.declared.header.Header.{Header}
 use Rattle.unpack.specs.declared.header.Header.the-variants.{Skipped, Coded, Refused as RefusedHeader}
 use Rattle.unpack.proofs.HeaderLaws.{Follows, Announced, header-announced}
@@ -121,7 +121,7 @@ Ends bytes at = Follows bytes at (2 ^ 36)
 headed-lands : (b : CodeblockGrid) (bytes : List ℕ) (at : ℕ) (h : Header) (plane : List ℤ) → Announced bytes at h → Lands (Ends bytes at) (headed b bytes h plane .progress)
 unfolding headed checkedData subbandData
 headed-lands b bytes at (Skipped bit) plane known =
-    record { onward = known .onward; near = omega (arith, known .near); whole = known .whole; within = known .within }
+    record { onward = known .onward; bits-most = omega (arith, known .bits-most); whole = known .whole; within = known .within }
 headed-lands b bytes at (Coded index bit size) plane known =
     choice-lands (Ends bytes at) (ltb 115 index) _ _ (λ t e. omega arith)
     (λ t. choice-lands (Ends bytes at) (ltb (length bytes) (bit / 8 + size)) _ _ (λ u e. omega arith)
@@ -130,7 +130,7 @@ headed-lands b bytes at (Coded index bit size) plane known =
     goes-on-lands (Ends bytes at) (bit + 8 * size) _
     (record {
       onward = omega (arith, known .0 .onward);
-      near = omega (arith, known .0 .near, known .1);
+      bits-most = omega (arith, known .0 .bits-most, known .1);
       whole = omega (arith, known .0 .whole);
       within = λ inside. omega (arith, known .0 .whole, there);
     })
@@ -157,11 +157,11 @@ module _ (p : Parameters) (bytes : List ℕ) where
       (λ t. here)
 
   -- and so the next one starts there
-  pub subband-near : (k at bit : ℕ) (plane last : List ℤ) → goesOn bit last ≡ subband p bytes k (goesOn at plane) → Ends bytes at bit
-  subband-near k at bit plane last e = subst (λ (r : Run). Lands (Ends bytes at) (r .progress)) (sym e) (subband-lands k at plane)
+  pub subband-bits-most : (k at bit : ℕ) (plane last : List ℤ) → goesOn bit last ≡ subband p bytes k (goesOn at plane) → Ends bytes at bit
+  subband-bits-most k at bit plane last e = subst (λ (r : Run). Lands (Ends bytes at) (r .progress)) (sym e) (subband-lands k at plane)
 
   -- what follows a subband ends where each way on from it does
-  ended : (k at : ℕ) (progress : Progress) (plane : List ℤ) (go : ℕ → List ℤ → Unpacked) → at ≤ 8 * length bytes → Lands (Ends bytes at) progress →
+  ended : (k at : ℕ) (progress : Progress) (plane : List ℤ) (go : ℕ → List ℤ → UnpackResult) → at ≤ 8 * length bytes → Lands (Ends bytes at) progress →
       ((bit : ℕ) (after : List ℤ) → bit ≤ 8 * length bytes → bit % 8 ≡ 0 → go bit after .status ≡ 0 → Between bytes bit (go bit after .place)) →
       endedWith k progress plane go .status ≡ 0 → Between bytes at (endedWith k progress plane go .place)
   unfolding endedWith
@@ -185,7 +185,7 @@ module _ (p : Parameters) (bytes : List ℕ) where
   accepted-read plane fine =
       elim (ℕ-discrete (status p plane) 0) [
         | yes none ↦ none
-        | no some ↦ sym (ap (λ (u : Unpacked). u .status) (job-refused p bytes plane some)) ∙ fine
+        | no some ↦ sym (ap (λ (u : UnpackResult). u .status) (job-refused p bytes plane some)) ∙ fine
       ]
 
   -- On acceptance, the bytes used are at most the bytes that there are.

@@ -8,7 +8,7 @@ use mathlib.Core.List.{List}
 use lib.IntN.{ℤ, pos}
 use lib.ListN.{getD}
 use Rattle.component.specs.Checks.{sizesInRange, depthInRange, codeblocksInRange}
-use Rattle.component.specs.Subbands.{subbandCount, Lies}
+use Rattle.component.specs.Subbands.{subbandCount, InSubband}
 use Rattle.component.specs.declared.parameters.Parameters.{Parameters}
 use Rattle.coefficients.specs.declared.reading.Progress.{Progress}
 use Rattle.coefficients.specs.declared.reading.Progress.the-variants.{At, Refused}
@@ -25,7 +25,7 @@ pub record Checked (p : Parameters) : Type 0 where
 
 -- The entries where a subband stands hold zeros.
 pub record ClearBand (b : CodeblockGrid) (plane : List ℤ) : Type 0 where
-  pub each : (row column : ℕ) → Lies (b .subband) row column → getD plane (row * b .stride + column) (pos 0) ≡ pos 0
+  pub each : (row column : ℕ) → InSubband (b .subband) row column → getD plane (row * b .stride + column) (pos 0) ≡ pos 0
 
 -- So do those of subband k and of all that follow it.
 pub record ClearBandsFrom (p : Parameters) (k : ℕ) (plane : List ℤ) : Type 0 where

@@ -1,5 +1,5 @@
 // Runs unpack on the jobs of the standard input and writes what each gives to the standard output. The independent decoder made the
-// stored input and the output that is owed, and says what they look like (host/reference/src/unpack_vectors.rs).
+// stored input and the expected output, and says what they look like (host/reference/src/unpack_vectors.rs).
 mod input;
 mod output;
 

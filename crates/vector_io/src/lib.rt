@@ -4,8 +4,8 @@ ghost use mathlib.Core.Bool.{false};
 ghost use Prim.Native.Nat.{_+_, _*_, _<_};
 ghost use lib.ListN.{length};
 ghost use Rattle.base.specs.Fill.{fill};
+use base::signed::magnitude;
 use libc::STDOUT_FILENO;
-use text::magnitude;
 
 // The number of two bytes, the high one first.
 pub fn two_bytes(high: u8, low: u8) -> u32

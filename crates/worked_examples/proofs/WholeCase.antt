@@ -2,14 +2,14 @@
 -- Assumes nothing.
 use mathlib.Core.Path.{_≡_, refl}
 use Rattle.base.specs.Every.{allBelow}
-use Rattle.base.specs.Fill.{tabulate, zerosLike}
+use Rattle.base.specs.Lists.{tabulate, zerosLike}
 use Rattle.base.specs.Range.{fits32}
 use Rattle.base.specs.Sign.{withSign}
 use Rattle.base.specs.Walk.{walk}
 use Rattle.component.specs.Sizes.{paddedSize, bandSize, sizeAt}
-use Rattle.component.specs.Subbands.{subbandLevel, detailOf, orientation, leftOf, topOf, subbandAt}
+use Rattle.component.specs.Subbands.{subbandLevel, detailOf, orientationOf, leftOf, topOf, subbandAt}
 use Rattle.component.specs.Partition.{partStart}
-use Rattle.component.specs.Checks.{sizesInRange, depthInRange, waveletInRange, countsInRange, codeblocksInRange, areaOf, planesFit, refusalOf}
+use Rattle.component.specs.Checks.{sizesInRange, depthInRange, waveletInRange, countsInRange, codeblocksInRange, areaOf, areaWithin, planesFit, refusalOf}
 use Rattle.exp_golomb.specs.Bits.{bitAt, present, takeBit}
 use Rattle.exp_golomb.specs.Codes.{onBit, codeFrom, unsigned, withSignBit, signed}
 use Rattle.coefficients.specs.Quantiser.{factorOf, quantFactor, quantOffset, scaled, dequantise}
@@ -18,18 +18,19 @@ use Rattle.codeblocks.specs.Codeblocks.{codeblockArea, onFlag, codeblockValues,
 use Rattle.prediction.specs.Prediction.{meanOf, predictor, storePredicted, predictedValue, predictedRow, prediction}
 use Rattle.unpack.specs.Subband.{boundary, onRead, headerAt, goesOnAt, subbandData, checkedData, headed, predictedBand, isPredicted, codeblocksOf, subbandFrom, subband}
 use Rattle.unpack.specs.Job.{endedWith, subbandsFrom, unpacked}
-use Rattle.lifting.specs.Filters.{deslauriersDubuc97, leGall53, deslauriersDubuc137, haarSteps, haar, haarWithShift, fidelity, daubechies97, filterOf}
-use Rattle.lifting.specs.Lifting.{changesEven, adds, clamp, readPlace, tapSum, rounding, update, changes, lift}
-use Rattle.lifting.specs.Passes.{run, runAll, assigns, newFit, allNewFit}
-use Rattle.lifting.specs.Planes.{pictureOf, raster}
+use Rattle.filters.specs.Filters.{deslauriersDubuc97, leGall53, deslauriersDubuc137, haarSteps, haar, haarWithShift, fidelity, daubechies97, filterOf}
+use Rattle.filters.specs.Lifting.{changesEven, adds, clamp, readPosition, tapSum, rounding, update, changes, lift}
+use Rattle.filters.specs.Passes.{run, runAll, assigns, newFit, allNewFit}
+use Rattle.filters.specs.Planes.{pictureOf, raster}
 use Rattle.transform.specs.Synthesis.{synthesisPasses, interleave, synthesis, levelFits, firstBadLevel}
 use Rattle.transform.specs.Job.{pictureFrom, badLevel, accepted, overflowed, unchanged, transformed, synthesised}
 use Rattle.decode.specs.Job.{unchanged as decodeUnchanged, zeroed, accepted as decodeAccepted, unpackedAndSynthesised, decoded}
-use Rattle.contents.specs.Table.{bigEndian, codeblockCount, codeblockCounts, parametersAt, offsetAt, lengthAt, bodyStart, entryIsRight, tableIsRight, entryCount, body}
-use Rattle.text.specs.Text.{ascii, placesWithin, decimal, signed as textSigned, spaced, row as textRow, rows}
-use Rattle.recording.specs.Output.{isLent, lentPlane, entryDecoded, heading, sizeText, pictureText, refusalText, entryLines, entryText, joined, output}
+use Rattle.contents.specs.Bytes.{bigEndian}
+use Rattle.contents.specs.Table.{codeblockCount, codeblockCounts, parametersAt, offsetAt, lengthAt, bodyStart, entryIsRight, tableIsRight, entryCount, body}
+use Rattle.text.specs.Text.{ascii, digitsWithin, decimal, signedText, spaced, rowText, rowsText}
+use Rattle.recording.specs.Output.{fitsProgram, entryDecoded, heading, sizeText, pictureText, refusalText, entryLines, entryText, joined, output}
 use Rattle.contents.proofs.WholeCase.{wholeCase}
 
 pub whole-case-output : output wholeCase ≡ ascii "entry 0: 2 x 2\n9 12\n7 11\n"
-unfolding allBelow tabulate zerosLike fits32 withSign walk paddedSize bandSize sizeAt subbandLevel detailOf orientation leftOf topOf subbandAt sizesInRange depthInRange waveletInRange countsInRange codeblocksInRange areaOf planesFit refusalOf bitAt present takeBit onBit codeFrom unsigned withSignBit signed factorOf quantFactor quantOffset scaled dequantise going onNumber store value rectangleValues partStart codeblockArea onFlag codeblockValues codeblock codeblocks meanOf predictor storePredicted predictedValue predictedRow prediction boundary onRead headerAt goesOnAt subbandData checkedData headed predictedBand isPredicted codeblocksOf subbandFrom subband endedWith subbandsFrom unpacked deslauriersDubuc97 leGall53 deslauriersDubuc137 haarSteps haar haarWithShift fidelity daubechies97 filterOf changesEven adds clamp readPlace tapSum rounding update changes lift run runAll assigns newFit allNewFit pictureOf raster synthesisPasses interleave synthesis levelFits firstBadLevel pictureFrom badLevel accepted overflowed unchanged transformed synthesised decodeUnchanged zeroed decodeAccepted unpackedAndSynthesised decoded bigEndian codeblockCount codeblockCounts parametersAt offsetAt lengthAt bodyStart entryIsRight tableIsRight entryCount body ascii placesWithin decimal textSigned spaced textRow rows isLent lentPlane entryDecoded heading sizeText pictureText refusalText entryLines entryText joined output wholeCase
+unfolding allBelow tabulate zerosLike fits32 withSign walk paddedSize bandSize sizeAt subbandLevel detailOf orientationOf leftOf topOf subbandAt sizesInRange depthInRange waveletInRange countsInRange codeblocksInRange areaOf planesFit refusalOf bitAt present takeBit onBit codeFrom unsigned withSignBit signed factorOf quantFactor quantOffset scaled dequantise going onNumber store value rectangleValues partStart codeblockArea onFlag codeblockValues codeblock codeblocks meanOf predictor storePredicted predictedValue predictedRow prediction boundary onRead headerAt goesOnAt subbandData checkedData headed predictedBand isPredicted codeblocksOf subbandFrom subband endedWith subbandsFrom unpacked deslauriersDubuc97 leGall53 deslauriersDubuc137 haarSteps haar haarWithShift fidelity daubechies97 filterOf changesEven adds clamp readPosition tapSum rounding update changes lift run runAll assigns newFit allNewFit pictureOf raster synthesisPasses interleave synthesis levelFits firstBadLevel pictureFrom badLevel accepted overflowed unchanged transformed synthesised decodeUnchanged zeroed decodeAccepted unpackedAndSynthesised decoded bigEndian codeblockCount codeblockCounts parametersAt offsetAt lengthAt bodyStart entryIsRight tableIsRight entryCount body ascii digitsWithin decimal signedText spaced rowText rowsText areaWithin fitsProgram entryDecoded heading sizeText pictureText refusalText entryLines entryText joined output wholeCase
 whole-case-output = refl

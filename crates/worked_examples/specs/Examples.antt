@@ -6,24 +6,24 @@ use mathlib.Core.List.{List, [], _∷_, map}
 use lib.Dec.{eqb}
 use lib.IntN.{ℤ, pos, negℤ}
 use lib.ListN.{length}
-use Rattle.base.specs.Fill.{tabulate}
+use Rattle.base.specs.Lists.{tabulate}
 use Rattle.base.specs.Sign.{withSign}
 use Rattle.exp_golomb.specs.Codes.{unsigned, signed}
 use Rattle.exp_golomb.specs.declared.codes.Number.{Number}
 use Rattle.exp_golomb.specs.declared.codes.Number.the-variants.{Read, Missing, TooLong}
-use Rattle.lifting.specs.Filters.{filterOf}
-use Rattle.lifting.specs.Passes.{Pass, rows, halve, runAll}
-use Rattle.lifting.specs.Planes.{pictureOf, raster}
+use Rattle.filters.specs.Filters.{filterOf}
+use Rattle.filters.specs.Passes.{Pass, rows, halve, runAll}
+use Rattle.filters.specs.Planes.{pictureOf, raster}
 use Rattle.coefficients.specs.Quantiser.{quantFactor, dequantise}
 use Rattle.prediction.specs.Prediction.{meanOf}
 
 pub record Row : Type 0 where
   pub computed : List ℤ
-  pub owed : List ℤ
+  pub expected : List ℤ
 
 infix 70 _is_
 abbrev pub _is_ : List ℤ → List ℤ → Row
-computed is owed = record { computed = computed; owed = owed }
+computed is expected = record { computed = computed; expected = expected }
 
 abbrev minus : ℕ → ℤ
 minus n = negℤ (pos n)

@@ -1,1 +1,2 @@
+-- Document 01
 pub mod Examples

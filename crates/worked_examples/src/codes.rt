@@ -49,7 +49,7 @@ fn read_and_print(case: &[u8], bytes: &[u8], end: usize, stated: bool) {
     end_line();
 }
 
-// Writes the place after the bits taken, and the number that was read.
+// Writes the bit after those taken, and the number that was read.
 fn print_next(number: Number) {
     match number {
         Number::Read {

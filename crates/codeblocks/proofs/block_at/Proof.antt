@@ -2,11 +2,11 @@
 -- Assumes nothing.
 use native.Mathlib.Omega.{arith}
 use borrow.Author.Needs.{needs}
-use Rattle.codeblocks.proofs.BlockLaws.{Edges, edges, Room, room, block-at-is}
+use Rattle.codeblocks.proofs.BlocksLaws.{BlockEdges, edges, BlockRoom, room, block-at-is}
 use Rattle.codeblocks.proofs.block_at.Statement.{statement}
 use Rattle.codeblocks.proofs.block_at.Tie as tie
 
-at : (c : tie.Start) → Edges (c .args .blocks) (c .args .m)
+at : (c : tie.Start) → BlockEdges (c .args .blocks) (c .args .m)
 at c = edges _ (c .pre .0) _ (c .pre .1)
 
 rem-x : tie.Need-rem-x
@@ -50,7 +50,7 @@ part-start-requires-4 c κs =
     (omega (arith, counted .tall), counted .down-least, omega (arith, at start .row-below, counted .down-most))
 
 between : (c : tie.After-part-start4) →
-    Room (c .before .before .before .before .before .before .before .args .blocks)
+    BlockRoom (c .before .before .before .before .before .before .before .args .blocks)
     (c .before .before .before .part-start .result) (c .before .before .part-start2 .result)
     (c .before .part-start3 .result) (c .part-start4 .result)
 between c =

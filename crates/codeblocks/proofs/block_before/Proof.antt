@@ -3,7 +3,7 @@
 use mathlib.Core.Path.{refl, _∙_}
 use borrow.Author.Needs.{needs}
 use Rattle.codeblocks.specs.Blocks.{blockBefore}
-use Rattle.codeblocks.proofs.BlockLaws.{block-before-some}
+use Rattle.codeblocks.proofs.BlocksLaws.{block-before-some}
 use Rattle.codeblocks.proofs.block_before.Statement.{statement}
 use Rattle.codeblocks.proofs.block_before.Tie as tie
 

@@ -3,8 +3,8 @@
 -- Assumes nothing.
 use native.Mathlib.Omega.{arith}
 use borrow.Author.Needs.{needs}
-use Rattle.component.proofs.PartitionLaws.{reciprocal-small}
-use Rattle.codeblocks.proofs.BlockLaws.{column-before, Beside, beside}
+use Rattle.component.proofs.ReciprocalLaws.{reciprocal-small}
+use Rattle.codeblocks.proofs.BlocksLaws.{column-before, BesideBefore, beside}
 use Rattle.codeblocks.proofs.next_block.Statement.{statement}
 use Rattle.codeblocks.proofs.next_block.Tie as tie
 
@@ -31,7 +31,7 @@ part-start-by-requires c κs =
 -- the codeblock goes on in its row
 in-row : (c : tie.After-part-start-by) →
     let start = c .before .before .before .before .before in
-    Beside (start .args .blocks) (start .args .m) (start .args .before) (c .part-start-by .result)
+    BesideBefore (start .args .blocks) (start .args .m) (start .args .before) (c .part-start-by .result)
 in-row c =
     let start = c .before .before .before .before .before in
     beside (start .args .blocks) (start .pre .0) (start .args .m) (start .args .before) _ (start .pre .1) (start .pre .2) (omega (arith, c .before .before .if1 .left)) (c .part-start-by .ensures _ (start .pre .0 .across-least) (start .pre .0 .across-most) (start .pre .3))

@@ -15,7 +15,7 @@ use Rattle.rectangles.specs.Areas.{sizeOf}
 use Rattle.coefficients.proofs.PortionLaws.{Follows, sound-again}
 use Rattle.codeblocks.specs.Blocks.{countOf, blockBefore, areaBefore}
 use Rattle.codeblocks.specs.declared.PlacedCodeblock.{PlacedCodeblock}
-use Rattle.codeblocks.proofs.BlockLaws.{few-blocks, placed-same, area-before-inside, block-before-next, block-small}
+use Rattle.codeblocks.proofs.BlocksLaws.{few-blocks, placed-same, area-before-inside, block-before-next, block-small}
 use Rattle.codeblocks.proofs.RestLaws.{atValue}
 use Rattle.codeblocks.proofs.TurnLaws.{Sofar, sofar-first, sofar-values, sofar-flag, ends-refused, ends-short, ends-over}
 use Rattle.codeblocks.proofs.read_codeblocks.Statement.{statement}
@@ -104,7 +104,7 @@ returns-2 c =
     let on = c .before .before .progress .given .1 in
     elim (c .if1 .came) [
       | inl short ↦
-          rw (short .taken) (ends-short _ _ _ _ _ _ _ _ _ (read values) _ on (head .next) _ (head .inv .1) (short .taken) (part .ensures .full) (rw on at (part .ensures .near (short .taken))))
+          rw (short .taken) (ends-short _ _ _ _ _ _ _ _ _ (read values) _ on (head .next) _ (head .inv .1) (short .taken) (part .ensures .full) (rw on at (part .ensures .close-to-end (short .taken))))
       | inr (full, known, all) ↦
           rw (full .left) (ends-over _ _ _ _ _ _ _ _ _ (read values) _ on (leb-true _ _ (all .taken)) (begun-read values _ on (full .left)))
     ]
@@ -120,7 +120,7 @@ returns-3 c =
     let values = c .before .before .before .before .before .before .before .before .before in
     let flag = c .before .read-flag in
     let given = c .before .before .before .before .before .before .progress .given in
-    ends-short _ _ _ _ _ _ _ _ _ (read values) _ (given .1) _ _ (same-data (values .before .before .before) (given .0 .0)) (c .if3 .taken) (flag .ensures .full) (flag .ensures .near (c .if3 .taken))
+    ends-short _ _ _ _ _ _ _ _ _ (read values) _ (given .1) _ _ (same-data (values .before .before .before) (given .0 .0)) (c .if3 .taken) (flag .ensures .full) (flag .ensures .close-to-end (c .if3 .taken))
 
 next-block-requires : tie.Need-next-block-requires Inv-loop μ-loop
 next-block-requires c κs = (c .before .before .before .before .before .before .before .before .before .before .before .before .before .before .before .before .before .pre .0 .counted, leb-false _ _ (c .before .before .if2 .left), c .before .before .before .before .before .before .before .before .before .before .before .before .loop .inv .2, c .before .before .before .before .before .before .before .before .before .before .before .before .before .reciprocal-of .ensures)

@@ -3,9 +3,8 @@
 use mathlib.Core.Path.{_≡_, sym, _∙_}
 use borrow.Author.Needs.{needs}
 use denote.Ref.{now}
-use Rattle.component.specs.Checks.{refusalOf}
+use Rattle.component.specs.Checks.{refusalOf, lengthsOf}
 use Rattle.component.specs.declared.parameters.Job.the-variants.{Decode}
-use Rattle.transform.specs.Job.{lengthsOf}
 use Rattle.decode.specs.Job.{outcome, unchanged}
 use Rattle.decode.proofs.JobLaws.{refused-by-check, refused-by-bytes, refused-by-synthesis, job-accepted}
 use Rattle.decode.proofs.decode.Statement.{statement}

@@ -6,7 +6,7 @@ use lib.IntN.{pos, _+ℤ_}
 use mir.Syntax.{w32, w64}
 use mir.Val.{toZ, ofZ}
 use Rattle.base.specs.Floor.{floorDiv}
-use Rattle.base.proofs.Ranges.{back}
+use Rattle.base.proofs.RangeLaws.{back}
 use Rattle.prediction.specs.Prediction.{meanOf}
 use Rattle.prediction.proofs.PredictionLaws.{SumsFit, sums-fit}
 use Rattle.prediction.proofs.mean_of.Statement.{statement}

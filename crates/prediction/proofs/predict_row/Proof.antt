@@ -7,7 +7,7 @@ use native.Mathlib.Omega.{arith}
 use borrow.Author.Tests.{not-true, not-false}
 use lib.ListN.{length}
 use Rattle.base.specs.Walk.{walk}
-use Rattle.base.proofs.Walks.{walk-none}
+use Rattle.base.proofs.WalkLaws.{walk-none}
 use Rattle.prediction.specs.Prediction.{ended, predictedValue, predictedRow}
 use Rattle.prediction.proofs.PredictionLaws.{value-stays, turn-fits, turn-ends}
 use Rattle.prediction.proofs.predict_row.Statement.{statement}

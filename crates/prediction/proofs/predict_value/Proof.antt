@@ -10,7 +10,7 @@ use lib.ListN.{getD}
 use mir.Syntax.{w32, w64}
 use mir.Val.{toZ, ofZ}
 use Rattle.base.specs.Range.{fits32}
-use Rattle.base.proofs.Ranges.{back}
+use Rattle.base.proofs.RangeLaws.{back}
 use Rattle.prediction.specs.Prediction.{predictor}
 use Rattle.prediction.proofs.PredictionLaws.{predicted-small, value-stored, value-not-stored}
 use Rattle.prediction.proofs.predict_value.Statement.{statement}

@@ -8,7 +8,7 @@ use lib.IntN.{ℤ, pos}
 use lib.ListN.{getD}
 use mir.Syntax.{w32, w64}
 use mir.Val.{toZ, ofZ}
-use Rattle.base.proofs.Ranges.{back}
+use Rattle.base.proofs.RangeLaws.{back}
 use Rattle.prediction.proofs.PredictionLaws.{value-small, row-above, predictor-corner, predictor-top, predictor-left, predictor-inner}
 use Rattle.prediction.proofs.predictor_at.Statement.{statement}
 use Rattle.prediction.proofs.predictor_at.Tie as tie

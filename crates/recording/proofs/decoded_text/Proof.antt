@@ -1,13 +1,10 @@
 -- `recording::decoded_text` meets its contract: over zeroed planes decode gives what the entry's lines tell.
 -- Assumes nothing.
 use mathlib.Core.Path.{sym, ap, _∙_}
-use native.Mathlib.Omega.{arith}
-use lib.ListN.{length}
 use denote.Ref.{now}
-use Rattle.base.specs.Fill.{zerosLike}
-use Rattle.decode.specs.Job.{Decoded, outcome}
-use Rattle.text.proofs.Pieces.{put-same}
-use Rattle.recording.proofs.EntryLaws.{samples-fit, entry-decoded, lines-of}
+use Rattle.decode.specs.Job.{DecodeResult, outcome}
+use Rattle.text.proofs.PutLaws.{put-same}
+use Rattle.recording.proofs.OutputLaws.{samples-fit, entry-decoded, lines-of}
 use borrow.Author.Needs.{needs}
 use Rattle.recording.proofs.decoded_text.Statement.{statement}
 use Rattle.recording.proofs.decoded_text.Tie as tie
@@ -31,7 +28,7 @@ put-entry-requires c κs =
     let call = c .before .before .before .before .before .decode in (
       start .pre .1,
       λ fine.
-          let fit = samples-fit _ _ _ _ _ (c .before .before .before .before .before .before .before .before .before .before .before .before .before .before .before .before .zero .kept .0 ∙ start .pre .0 .0) (sym (ap (λ (d : Decoded). d .status) (call .ensures)) ∙ fine) in
+          let fit = samples-fit _ _ _ _ _ (c .before .before .before .before .before .before .before .before .before .before .before .before .before .before .before .before .zero .kept .0 ∙ start .pre .0 .0) (sym (ap (λ (d : DecodeResult). d .status) (call .ensures)) ∙ fine) in
           (call .kept .1 .1 .1 .1 .0 ∙ fit .0, fit .1, fit .2),
     )
 

@@ -1,14 +1,13 @@
--- `recording::entry_text` meets its contract: the entry's body is a part of the file, and its planes are parts of those lent.
+-- `recording::entry_text` meets its contract: the entry's body is a part of the file, and its planes are parts of the program's.
 -- Assumes nothing.
 use mathlib.Core.Path.{sym, _∙_}
 use native.Mathlib.Omega.{arith}
-use lib.ListN.{length}
 use lib.Seq.{length-take-le}
 use denote.Ref.{now}
 use Rattle.contents.proofs.TableLaws.{part-inside, part-is-body}
-use Rattle.text.proofs.Pieces.{put-same}
-use Rattle.recording.proofs.LentLaws.{area-most, samples-most, length-lent}
-use Rattle.recording.proofs.EntryLaws.{text-of}
+use Rattle.text.proofs.PutLaws.{put-same}
+use Rattle.recording.proofs.OutputLaws.{plane-most, sample-most}
+use Rattle.recording.proofs.OutputLaws.{text-of}
 use borrow.Author.Needs.{needs}
 use Rattle.recording.proofs.entry_text.Statement.{statement}
 use Rattle.recording.proofs.entry_text.Tie as tie
@@ -21,11 +20,11 @@ add-end c =
     let start = c .before .before .before .before .before in
     omega (arith, part-inside (now (start .args .file)) (start .args .k) (start .pre .0) (c .before .before .entry-at .result) (c .before .before .entry-at .ensures))
 
-lent-area-requires : tie.Need-lent-area-requires
-lent-area-requires c κs = search needs
+plane-length-requires : tie.Need-plane-length-requires
+plane-length-requires c κs = search needs
 
-lent-samples-requires : tie.Need-lent-samples-requires
-lent-samples-requires c κs = search needs
+sample-length-requires : tie.Need-sample-length-requires
+sample-length-requires c κs = search needs
 
 sub-decoded-text : tie.Need-sub-decoded-text
 sub-decoded-text c = search needs
@@ -40,34 +39,34 @@ part-decoded-text-end c =
     search needs
 
 slice-relend-prefix-decoded-text : tie.Need-slice-relend-prefix-decoded-text
-slice-relend-prefix-decoded-text c = omega (arith, c .before .before .lent-area .ensures, area-most (c .before .before .before .before .before .entry-at .result .parameters), c .before .before .before .before .before .before .before .before .pre .1 .0)
+slice-relend-prefix-decoded-text c = omega (arith, c .before .before .plane-length .ensures, plane-most (c .before .before .before .before .before .entry-at .result .parameters), c .before .before .before .before .before .before .before .before .pre .1 .0)
 
 slice-aggregate-decoded-text : tie.Need-slice-aggregate-decoded-text
-slice-aggregate-decoded-text c = sym (length-take-le _ _ (omega (arith, c .before .before .before .lent-area .ensures, area-most (c .before .before .before .before .before .before .entry-at .result .parameters), c .before .before .before .before .before .before .before .before .before .pre .1 .0)))
+slice-aggregate-decoded-text c = sym (length-take-le _ _ (omega (arith, c .before .before .before .plane-length .ensures, plane-most (c .before .before .before .before .before .before .entry-at .result .parameters), c .before .before .before .before .before .before .before .before .before .pre .1 .0)))
 
 slice-relend-prefix-decoded-text-2 : tie.Need-slice-relend-prefix-decoded-text-2
-slice-relend-prefix-decoded-text-2 c = omega (arith, c .before .before .before .lent-area .ensures, area-most (c .before .before .before .before .before .before .entry-at .result .parameters), c .before .before .before .before .before .before .before .before .before .pre .1 .1)
+slice-relend-prefix-decoded-text-2 c = omega (arith, c .before .before .before .plane-length .ensures, plane-most (c .before .before .before .before .before .before .entry-at .result .parameters), c .before .before .before .before .before .before .before .before .before .pre .1 .1)
 
 slice-aggregate-decoded-text-2 : tie.Need-slice-aggregate-decoded-text-2
-slice-aggregate-decoded-text-2 c = sym (length-take-le _ _ (omega (arith, c .before .before .before .before .lent-area .ensures, area-most (c .before .before .before .before .before .before .before .entry-at .result .parameters), c .before .before .before .before .before .before .before .before .before .before .pre .1 .1)))
+slice-aggregate-decoded-text-2 c = sym (length-take-le _ _ (omega (arith, c .before .before .before .before .plane-length .ensures, plane-most (c .before .before .before .before .before .before .before .entry-at .result .parameters), c .before .before .before .before .before .before .before .before .before .before .pre .1 .1)))
 
 slice-relend-prefix-decoded-text-3 : tie.Need-slice-relend-prefix-decoded-text-3
-slice-relend-prefix-decoded-text-3 c = omega (arith, c .before .before .before .lent-samples .ensures, samples-most (c .before .before .before .before .before .before .before .entry-at .result .parameters), c .before .before .before .before .before .before .before .before .before .before .pre .1 .2)
+slice-relend-prefix-decoded-text-3 c = omega (arith, c .before .before .before .sample-length .ensures, sample-most (c .before .before .before .before .before .before .before .entry-at .result .parameters), c .before .before .before .before .before .before .before .before .before .before .pre .1 .2)
 
 slice-aggregate-decoded-text-3 : tie.Need-slice-aggregate-decoded-text-3
-slice-aggregate-decoded-text-3 c = sym (length-take-le _ _ (omega (arith, c .before .before .before .before .lent-samples .ensures, samples-most (c .before .before .before .before .before .before .before .before .entry-at .result .parameters), c .before .before .before .before .before .before .before .before .before .before .before .pre .1 .2)))
+slice-aggregate-decoded-text-3 c = sym (length-take-le _ _ (omega (arith, c .before .before .before .before .sample-length .ensures, sample-most (c .before .before .before .before .before .before .before .before .entry-at .result .parameters), c .before .before .before .before .before .before .before .before .before .before .before .pre .1 .2)))
 
 decoded-text-requires : tie.Need-decoded-text-requires
 decoded-text-requires c κs =
     let start = c .before .before .before .before .before .before .before .before .before .before .before .before in
     let p = c .before .before .before .before .before .before .before .before .before .entry-at .result .parameters in
-    let area = c .before .before .before .before .before .before .lent-area .ensures in
-    let count = c .before .before .before .before .before .lent-samples .ensures in
+    let area = c .before .before .before .before .before .before .plane-length .ensures in
+    let count = c .before .before .before .before .before .sample-length .ensures in
     let lengths = start .pre .1 in (
       (
-        length-take-le _ _ (omega (arith, area, area-most p, lengths .0)) ∙ area ∙ sym (length-lent p _),
-        length-take-le _ _ (omega (arith, area, area-most p, lengths .1)) ∙ area ∙ sym (length-lent p _),
-        length-take-le _ _ (omega (arith, count, samples-most p, lengths .2)) ∙ count ∙ sym (length-lent p _),
+        length-take-le _ _ (omega (arith, area, plane-most p, lengths .0)) ∙ area,
+        length-take-le _ _ (omega (arith, area, plane-most p, lengths .1)) ∙ area,
+        length-take-le _ _ (omega (arith, count, sample-most p, lengths .2)) ∙ count,
       ),
       lengths .3,
     )
@@ -99,8 +98,8 @@ entry-text-spec =
     (tie.spec
     entry-at-requires
     add-end
-    lent-area-requires
-    lent-samples-requires
+    plane-length-requires
+    sample-length-requires
     sub-decoded-text
     part-decoded-text-start
     part-decoded-text-end

@@ -1,14 +1,13 @@
 -- `recording::output_part` meets its contract: each way it ends is a case of the part's definition.
 -- Assumes nothing.
-use mathlib.Core.Path.{refl, sym, ap, _∙_}
-use Prim.Native.Nat.{_≤_}
+use mathlib.Core.Path.{refl, sym, _∙_}
 use Prim.Native.Nat.{_≤_}
 use native.Mathlib.Omega.{arith}
-use lib.ListN.{length, take}
+use lib.ListN.{length}
 use lib.Seq.{length-take-le}
 use denote.Ref.{now}
 use Rattle.text.specs.Text.{ascii}
-use Rattle.recording.proofs.EntryLaws.{part-wrong, part-after-wrong, part-entry, part-after-last}
+use Rattle.recording.proofs.PartsLaws.{part-wrong, part-after-wrong, part-entry, part-after-last}
 use borrow.Author.Needs.{needs}
 use Rattle.recording.proofs.output_part.Statement.{statement}
 use Rattle.recording.proofs.output_part.Tie as tie

@@ -1,7 +1,7 @@
 -- `rectangles::read_values` meets its contract: at the loop's head the values up to i have been read, and each run is a step.
 -- Assumes nothing.
 use mathlib.Core.Path.{_≡_, refl, sym, ap, _∙_}
-use Prim.Native.Nat.{_+_, _-_, _*_, _≤_, _<_}
+use Prim.Native.Nat.{_+_, _-_}
 use native.Mathlib.Omega.{arith}
 use borrow.Author.Needs.{needs}
 use Rattle.coefficients.specs.Scaling.{scaleOf}
@@ -85,7 +85,7 @@ same-length-2 c = step (c .before .before .before .before) .same-length
 returns-2 : tie.Need-returns-2 Inv-loop μ-loop
 returns-2 c =
     let read = reads-run (c .before .before .before .before) in
-    rw (← c .before .before .progress .given .1) (reads-short _ _ _ _ _ _ _ _ _ (step (c .before .before .before .before)) (read .near (c .if1 .taken)) (λ e. sym (c .if1 .taken) ∙ read .full e))
+    rw (← c .before .before .progress .given .1) (reads-short _ _ _ _ _ _ _ _ _ (step (c .before .before .before .before)) (read .close-to-end (c .if1 .taken)) (λ e. sym (c .if1 .taken) ∙ read .full e))
 
 loop-less : tie.Need-loop-less Inv-loop μ-loop
 loop-less c =

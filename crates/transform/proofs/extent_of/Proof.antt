@@ -2,7 +2,7 @@
 -- Assumes nothing.
 use native.Mathlib.Omega.{arith}
 use borrow.Author.Needs.{needs}
-use Rattle.component.proofs.CheckLaws.{width-most, height-most, depth-most}
+use Rattle.component.proofs.ChecksLaws.{width-most, height-most, depth-most}
 use Rattle.transform.specs.Geometry.{extentOf}
 use Rattle.transform.proofs.extent_of.Statement.{statement}
 use Rattle.transform.proofs.extent_of.Tie as tie

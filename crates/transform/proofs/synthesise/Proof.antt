@@ -5,11 +5,11 @@ use mathlib.Core.Bool.{true}
 use borrow.Author.Needs.{needs}
 use borrow.Author.Tests.{not-false}
 use denote.Ref.{now}
-use Rattle.base.proofs.Fills.{zeros-length}
-use Rattle.component.specs.Checks.{sizesInRange, depthInRange, waveletInRange, refusalOf}
+use Rattle.base.proofs.ListsLaws.{zeros-length}
+use Rattle.component.specs.Checks.{sizesInRange, depthInRange, waveletInRange, refusalOf, lengthsOf}
 use Rattle.component.specs.declared.parameters.Job.the-variants.{Synthesise}
-use Rattle.component.proofs.CheckLaws.{passed}
-use Rattle.transform.specs.Job.{outcome, unchanged, overflowed, accepted, lengthsOf}
+use Rattle.component.proofs.ChecksLaws.{passed}
+use Rattle.transform.specs.Job.{outcome, unchanged, overflowed, accepted}
 use Rattle.transform.proofs.Jobs.{Fitted, fitted, job-refused, job-overflowed, job-accepted}
 use Rattle.transform.proofs.synthesise.Statement.{statement}
 use Rattle.transform.proofs.synthesise.Tie as tie

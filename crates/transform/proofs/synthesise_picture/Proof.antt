@@ -1,16 +1,16 @@
 -- `transform::synthesise_picture` meets its contract: the levels are built for the sizes and the filter that the parameters give.
 -- Assumes nothing.
-use mathlib.Core.Path.{_≡_, refl, sym, ap, _∙_, subst}
-use Prim.Native.Nat.{ℕ, _*_, _≤_}
+use mathlib.Core.Path.{_≡_, refl, sym, _∙_, subst}
+use Prim.Native.Nat.{_*_, _≤_}
 use native.Mathlib.Nat.{mul-comm}
 use native.Mathlib.Omega.{arith}
 use borrow.Author.Needs.{needs}
 use lib.ListN.{length}
 use denote.Ref.{now}
-use Rattle.component.proofs.CheckLaws.{wavelet-most, width-least}
-use Rattle.lifting.specs.Filters.{filterOf}
-use Rattle.lifting.specs.Layout.{Agree}
-use Rattle.lifting.specs.Planes.{pictureOf}
+use Rattle.component.proofs.ChecksLaws.{wavelet-most, width-least}
+use Rattle.filters.specs.Filters.{filterOf}
+use Rattle.filters.specs.Pictures.{Agree}
+use Rattle.filters.specs.Planes.{pictureOf}
 use Rattle.transform.specs.Synthesis.{synthesis, firstBadLevel}
 use Rattle.transform.specs.Job.{badLevel, pictureFrom}
 use Rattle.transform.specs.Geometry.{Geometry, extentOf}

@@ -8,11 +8,11 @@ use borrow.Author.Needs.{needs}
 use lib.ListN.{length}
 use denote.Ref.{now}
 use Rattle.component.specs.Subbands.{subbandCount}
-use Rattle.component.proofs.CheckLaws.{depth-most}
-use Rattle.unpack.specs.Job.{Unpacked, outcome, subbandsFrom}
+use Rattle.component.proofs.ChecksLaws.{depth-most}
+use Rattle.unpack.specs.Job.{UnpackResult, outcome, subbandsFrom}
 use Rattle.unpack.specs.Bounds.{ClearBandsFrom}
 use Rattle.unpack.proofs.JobLaws.{subbands-end, subbands-next, subbands-stop}
-use Rattle.unpack.proofs.Within.{subband-near}
+use Rattle.unpack.proofs.Within.{subband-bits-most}
 use Rattle.unpack.proofs.FrameLaws.{clear-next}
 use Rattle.unpack.proofs.read_subbands.Statement.{statement}
 use Rattle.unpack.proofs.read_subbands.Tie as tie
@@ -83,7 +83,7 @@ returns c =
     let head = read .before .before .before .before in
     let start = head .before .before .before .before .before in
     let told = c .before .before .before .before .enum-told .given .1 in
-    let left : ℕ → Unpacked = λ n. subbandsFrom (start .args .p) (now (start .args .bytes)) n (head .loop .k) (head .loop .at) (head .loop .plane) in
+    let left : ℕ → UnpackResult = λ n. subbandsFrom (start .args .p) (now (start .args .bytes)) n (head .loop .k) (head .loop .at) (head .loop .plane) in
     rw (c .progress-status .ensures, told, c .before .before .zero .ensures, ← head .before .subband-count .ensures)
     (sym (ap left (fewer _ _ (read .before .before .before .loop-test .taken)) ∙ subbands-stop _ _ _ _ _ _ _ _ _ (rw told at (read .read-subband .ensures))) ∙ head .loop .inv .4)
 
@@ -98,11 +98,11 @@ loop-again c =
     let read = c .before .before .before .before in
     let head = read .before .before .before .before in
     let start = head .before .before .before .before .before in
-    let left : ℕ → Unpacked = λ n. subbandsFrom (start .args .p) (now (start .args .bytes)) n (head .loop .k) (head .loop .at) (head .loop .plane) in
+    let left : ℕ → UnpackResult = λ n. subbandsFrom (start .args .p) (now (start .args .bytes)) n (head .loop .k) (head .loop .at) (head .loop .plane) in
     let went = rw (c .before .progress .given .1) at (read .read-subband .ensures) in
     let below = read .before .before .before .loop-test .taken in (
       omega arith,
-      omega (arith, subband-near _ _ _ _ _ _ _ went .near, head .loop .inv .1),
+      omega (arith, subband-bits-most _ _ _ _ _ _ _ went .bits-most, head .loop .inv .1),
       read .read-subband .kept .0 ∙ head .loop .inv .2,
       clear-next _ _ (start .pre .0) _ _ _ _ (rw (← head .before .subband-count .ensures) below) went (head .loop .inv .3),
       sym (ap left (fewer _ _ below) ∙ subbands-next _ _ _ _ _ _ _ _ went) ∙ head .loop .inv .4,
@@ -116,7 +116,7 @@ unfolding outcome
 returns-2 c =
     let head = c .before in
     let start = head .before .before .before .before .before in
-    let left : ℕ → Unpacked = λ n. subbandsFrom (start .args .p) (now (start .args .bytes)) n (head .loop .k) (head .loop .at) (head .loop .plane) in
+    let left : ℕ → UnpackResult = λ n. subbandsFrom (start .args .p) (now (start .args .bytes)) n (head .loop .k) (head .loop .at) (head .loop .plane) in
     let none : head .before .subband-count .result - head .loop .k ≡ 0 = omega (arith, c .loop-test .left) in
     rw (← head .before .subband-count .ensures) (sym (ap left none ∙ subbands-end _ _ _ _ _) ∙ head .loop .inv .4)
 

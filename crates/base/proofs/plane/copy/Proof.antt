@@ -7,17 +7,17 @@ use lib.IntN.{pos}
 use lib.ListN.{length, getD, length-set}
 use mir.Syntax.{w32}
 use Rattle.base.specs.Fill.{fill}
-use Rattle.base.proofs.Fills.{fill-none, fill-more}
-use Rattle.base.proofs.Ranges.{back}
+use Rattle.base.proofs.FillLaws.{fill-none, fill-more}
+use Rattle.base.proofs.RangeLaws.{back}
 use Rattle.base.proofs.plane.copy.Statement.{statement}
 use Rattle.base.proofs.plane.copy.Tie as tie
 
 abbrev Inv-loop : tie.InvT-loop
-Inv-loop plane₀ place source from n x₀ plane x =
-    (x ≤ n) × (length plane ≡ length plane₀) × (plane ≡ fill plane₀ place x (λ k. getD source (from + k) (pos 0)))
+Inv-loop plane₀ index source from n x₀ plane x =
+    (x ≤ n) × (length plane ≡ length plane₀) × (plane ≡ fill plane₀ index x (λ k. getD source (from + k) (pos 0)))
 
 abbrev μ-loop : tie.MeasureT-loop
-μ-loop plane₀ place source from n x₀ plane x = n - x
+μ-loop plane₀ index source from n x₀ plane x = n - x
 
 loop-holds : tie.Need-loop-holds Inv-loop μ-loop
 loop-holds c = (omega arith, refl, sym (fill-none _ _ _))

@@ -7,11 +7,9 @@ use borrow.Author.Needs.{needs}
 use lib.IntN.{pos}
 use lib.ListN.{length, length-set}
 use Rattle.base.specs.Fill.{fill}
-use Rattle.base.proofs.Fills.{fill-none, fill-more, fill-zeros}
+use Rattle.base.proofs.FillLaws.{fill-none, fill-more, fill-zeros}
 use Rattle.base.proofs.plane.zero.Statement.{statement}
 use Rattle.base.proofs.plane.zero.Tie as tie
-use Rattle.base.proofs.plane.zero.Reads as reads
-use Rattle.base.proofs.plane.zero.Lts as lts
 
 abbrev Inv-loop : tie.InvT-loop
 Inv-loop plane₀ i₀ plane i = (i ≤ length plane₀) × (length plane ≡ length plane₀) × (plane ≡ fill plane₀ 0 i (λ k. pos 0))

@@ -1,20 +1,20 @@
 -- `base::plane::zero_part` meets its contract: after x turns the plane is the one that came, with x zeros stored.
 -- Assumes nothing.
 use mathlib.Core.Path.{_≡_, refl, sym, _∙_}
-use Prim.Native.Nat.{_+_, _≤_, _-_}
+use Prim.Native.Nat.{_≤_, _-_}
 use native.Mathlib.Omega.{arith}
 use lib.IntN.{pos}
 use lib.ListN.{length, length-set}
 use Rattle.base.specs.Fill.{fill}
-use Rattle.base.proofs.Fills.{fill-none, fill-more}
+use Rattle.base.proofs.FillLaws.{fill-none, fill-more}
 use Rattle.base.proofs.plane.zero_part.Statement.{statement}
 use Rattle.base.proofs.plane.zero_part.Tie as tie
 
 abbrev Inv-loop : tie.InvT-loop
-Inv-loop plane₀ place n x₀ plane x = (x ≤ n) × (length plane ≡ length plane₀) × (plane ≡ fill plane₀ place x (λ k. pos 0))
+Inv-loop plane₀ index n x₀ plane x = (x ≤ n) × (length plane ≡ length plane₀) × (plane ≡ fill plane₀ index x (λ k. pos 0))
 
 abbrev μ-loop : tie.MeasureT-loop
-μ-loop plane₀ place n x₀ plane x = n - x
+μ-loop plane₀ index n x₀ plane x = n - x
 
 loop-holds : tie.Need-loop-holds Inv-loop μ-loop
 loop-holds c = (omega arith, refl, sym (fill-none _ _ _))

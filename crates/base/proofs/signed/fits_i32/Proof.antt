@@ -2,7 +2,7 @@
 -- Assumes nothing.
 use mathlib.Core.Path.{_∙_}
 use mir.Syntax.{w64}
-use Rattle.base.proofs.Ranges.{back, fits32-upper, fits32-lower}
+use Rattle.base.proofs.RangeLaws.{back, fits32-upper, fits32-lower}
 use Rattle.base.proofs.signed.fits_i32.Statement.{statement}
 use Rattle.base.proofs.signed.fits_i32.Tie as tie
 

@@ -1,7 +1,7 @@
 -- `base::signed::narrow` meets its contract: the caller has shown that the number fits.
 -- Assumes nothing.
 use mir.Syntax.{w32, w64}
-use Rattle.base.proofs.Ranges.{back, fits32-below}
+use Rattle.base.proofs.RangeLaws.{back, fits32-below}
 use Rattle.base.proofs.signed.narrow.Statement.{statement}
 use Rattle.base.proofs.signed.narrow.Tie as tie
 

@@ -5,7 +5,7 @@ use native.Mathlib.Nat.{lt-of-le-of-lt}
 use borrow.Author.Needs.{needs}
 use lib.Signed.{shrZ, mag-shr}
 use mir.Syntax.{w64}
-use Rattle.base.proofs.Ranges.{back}
+use Rattle.base.proofs.RangeLaws.{back}
 use Rattle.base.proofs.signed.shift_down.Statement.{statement}
 use Rattle.base.proofs.signed.shift_down.Tie as tie
 

@@ -9,7 +9,9 @@ use lib.IntN.{pos, negsuc}
 use lib.Signed.{mag, ltZ, mag-shr}
 use mir.Syntax.{w64}
 use Rattle.base.specs.Floor.{floorDiv}
-use Rattle.base.proofs.Ranges.{back, mirror-below, mirror-pos, third-below, third-above}
+use Rattle.base.proofs.RangeLaws.{back}
+use Rattle.base.proofs.FloorLaws.{third-below, third-above}
+use Rattle.base.proofs.Integers.{mirror-below, mirror-pos}
 use Rattle.base.proofs.signed.third.Statement.{statement}
 use Rattle.base.proofs.signed.third.Tie as tie
 

@@ -2,7 +2,7 @@
 -- Assumes nothing.
 use native.Mathlib.Omega.{arith}
 use mir.Syntax.{w32, w64}
-use Rattle.base.proofs.Ranges.{back}
+use Rattle.base.proofs.RangeLaws.{back}
 use Rattle.base.proofs.signed.widen.Statement.{statement}
 use Rattle.base.proofs.signed.widen.Tie as tie
 

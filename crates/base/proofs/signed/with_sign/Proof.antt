@@ -5,7 +5,8 @@ use lib.IntN.{pos, negℤ}
 use mir.Syntax.{w64}
 use mir.ValLaws.{toZ-pos}
 use Rattle.base.specs.Sign.{withSign}
-use Rattle.base.proofs.Ranges.{back, zero-less, mag-minus}
+use Rattle.base.proofs.RangeLaws.{back}
+use Rattle.base.proofs.Integers.{zero-less, mag-minus}
 use Rattle.base.proofs.signed.with_sign.Statement.{statement}
 use Rattle.base.proofs.signed.with_sign.Tie as tie
 

@@ -10,8 +10,8 @@ use borrow.Author.Needs.{needs}
 use borrow.Author.Tests.{not-true, not-false}
 use mir.Syntax.{w32, w64}
 use mir.Val.{toZ, ofZ}
-use Rattle.base.proofs.Ranges.{back}
-use Rattle.base.proofs.Fills.{table-more}
+use Rattle.base.proofs.RangeLaws.{back}
+use Rattle.base.proofs.ListsLaws.{table-more}
 use Rattle.coefficients.specs.Scaling.{scaleOf, smallFit, smallValue}
 use Rattle.coefficients.proofs.ScalingLaws.{scaled-zero, small-fits}
 use Rattle.coefficients.proofs.quantiser.small_values.Statement.{statement}

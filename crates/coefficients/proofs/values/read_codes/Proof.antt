@@ -1,14 +1,13 @@
 -- `coefficients::values::read_codes` meets its contract: each turn reads one value, and takes at most eight of the 56 bits.
 -- Assumes nothing.
-use mathlib.Core.Path.{_≡_}
-use Prim.Native.Nat.{_+_, _-_, _*_, _≤_, _<_}
+use Prim.Native.Nat.{_-_, _*_, _≤_, _<_}
 use native.Mathlib.Omega.{arith}
 use lib.IntN.{pos}
 use lib.ListN.{length, getD}
 use borrow.Author.Needs.{needs}
 use denote.Ref.{now}
 use mir.Syntax.{w32}
-use Rattle.base.proofs.Ranges.{back}
+use Rattle.base.proofs.RangeLaws.{back}
 use Rattle.coefficients.proofs.AheadLaws.{first-most, Taken, taken-none, taken-code}
 use Rattle.coefficients.proofs.values.read_codes.Statement.{statement}
 use Rattle.coefficients.proofs.values.read_codes.Tie as tie

@@ -40,9 +40,9 @@ store-value-requires : tie.Need-store-value-requires
 store-value-requires c κs =
     let start = c .before .before .before .before .before .before .before in
     let read = c .before .before .before .before .before .read-signed in
-    let near = number-before _ (start .args .cursor) (read .result) (read .ensures) (start .pre .2 .before-end) in
+    let close-to-end = number-before _ (start .args .cursor) (read .result) (read .ensures) (start .pre .2 .before-end) in
     let next-is = c .before .before .before .number .given .1 in
-    (rw (c .before .index-at .ensures) (start .pre .1 .inside _ (start .pre .0)), start .pre .3, omega (arith, rw next-is at near, start .pre .2 .small))
+    (rw (c .before .index-at .ensures) (start .pre .1 .inside _ (start .pre .0)), start .pre .3, omega (arith, rw next-is at close-to-end, start .pre .2 .small))
 
 same-length : tie.Need-same-length
 same-length c = search needs

@@ -6,7 +6,7 @@ use borrow.Author.Tests.{not-true, not-false}
 use mir.Syntax.{w32, w64}
 use mir.Val.{toZ, ofZ}
 use Rattle.base.specs.Sign.{withSign}
-use Rattle.base.proofs.Ranges.{back}
+use Rattle.base.proofs.RangeLaws.{back}
 use Rattle.coefficients.specs.Scaling.{scaleOf}
 use Rattle.coefficients.proofs.ReadingLaws.{store-fits, store-out}
 use Rattle.coefficients.proofs.values.store_value.Statement.{statement}

@@ -8,9 +8,10 @@ use borrow.Author.Needs.{needs}
 use borrow.Author.Tests.{not-true, not-false}
 use lib.ListN.{getD}
 use Rattle.base.specs.Every.{allBelow}
-use Rattle.base.proofs.Everys.{all-none, all-more, all-not, and-true}
+use Rattle.base.proofs.EveryLaws.{all-none, all-more, all-not}
+use Rattle.base.proofs.Booleans.{and-true}
 use Rattle.component.specs.Checks.{inRange, countsInRange, codeblocksInRange}
-use Rattle.component.proofs.CheckLaws.{depth-most}
+use Rattle.component.proofs.ChecksLaws.{depth-most}
 use Rattle.component.proofs.checks.codeblocks_in_range.Statement.{statement}
 use Rattle.component.proofs.checks.codeblocks_in_range.Tie as tie
 

@@ -4,7 +4,7 @@ use native.Mathlib.Omega.{arith}
 use borrow.Author.Needs.{needs}
 use borrow.Author.Tests.{eq-eqb, ne-eqb, not-true, not-false}
 use Rattle.component.specs.Checks.{planesFit, transforms}
-use Rattle.component.proofs.CheckLaws.{samples-most}
+use Rattle.component.proofs.ChecksLaws.{samples-most}
 use Rattle.component.proofs.checks.planes_fit.Statement.{statement}
 use Rattle.component.proofs.checks.planes_fit.Tie as tie
 

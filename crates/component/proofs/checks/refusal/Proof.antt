@@ -5,7 +5,7 @@ use mathlib.Core.Bool.{true, false, not, _&&_}
 use borrow.Author.Needs.{needs}
 use borrow.Author.Tests.{not-true, not-false}
 use Rattle.component.specs.Checks.{unpacks, transforms, sizesInRange, depthInRange, waveletInRange, codeblocksInRange}
-use Rattle.component.proofs.CheckLaws.{refused-1, refused-2, refused-3, refused-4, refused-5, refused-none}
+use Rattle.component.proofs.ChecksLaws.{refused-1, refused-2, refused-3, refused-4, refused-5, refused-none}
 use Rattle.component.proofs.checks.refusal.Statement.{statement}
 use Rattle.component.proofs.checks.refusal.Tie as tie
 
@@ -15,16 +15,15 @@ sizes-in-range-requires c κs = search needs
 returns : tie.Need-returns
 returns c = refused-1 _ _ _ (sym (c .before .sizes-in-range .ensures) ∙ not-true _ (c .if1 .taken))
 
-in-range-requires : tie.Need-in-range-requires
-in-range-requires c κs = search needs
+depth-in-range-requires : tie.Need-depth-in-range-requires
+depth-in-range-requires c κs = search needs
 
 -- what each test that was passed says
 sizes : (c : tie.Else1) → sizesInRange (c .before .before .args .p) ≡ true
 sizes c = sym (c .before .sizes-in-range .ensures) ∙ not-false _ (c .if1 .left)
 
 depth : (c : tie.Else2) → depthInRange (c .before .before .before .before .args .p) ≡ true
-unfolding depthInRange
-depth c = sym (c .before .in-range .ensures) ∙ not-false _ (c .if2 .left)
+depth c = sym (c .before .depth-in-range .ensures) ∙ not-false _ (c .if2 .left)
 
 wavelet : (c : tie.Else3) → transforms (c .before .before .before .before .before .before .args .job) && not (waveletInRange (c .before .before .before .before .before .before .args .p)) ≡ false
 wavelet c = sym (c .before .wavelet-refused .ensures) ∙ c .if3 .left
@@ -33,8 +32,7 @@ codeblocks : (c : tie.Else4) → unpacks (c .before .before .before .before .bef
 codeblocks c = sym (c .before .codeblocks-refused .ensures) ∙ c .if4 .left
 
 returns-2 : tie.Need-returns-2
-unfolding depthInRange
-returns-2 c = refused-2 _ _ _ (sizes (c .before .before)) (sym (c .before .in-range .ensures) ∙ not-true _ (c .if2 .taken))
+returns-2 c = refused-2 _ _ _ (sizes (c .before .before)) (sym (c .before .depth-in-range .ensures) ∙ not-true _ (c .if2 .taken))
 
 wavelet-refused-requires : tie.Need-wavelet-refused-requires
 wavelet-refused-requires c κs = search needs
@@ -72,7 +70,7 @@ refusal-spec =
     (tie.spec
     sizes-in-range-requires
     returns
-    in-range-requires
+    depth-in-range-requires
     returns-2
     wavelet-refused-requires
     returns-3

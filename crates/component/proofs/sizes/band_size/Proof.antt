@@ -2,7 +2,7 @@
 -- Assumes nothing.
 use borrow.Author.Needs.{needs}
 use Rattle.component.specs.Sizes.{bandSize}
-use Rattle.component.proofs.SizeLaws.{band-size-from-1}
+use Rattle.component.proofs.SizesLaws.{band-size-from-1}
 use Rattle.component.proofs.sizes.band_size.Statement.{statement}
 use Rattle.component.proofs.sizes.band_size.Tie as tie
 

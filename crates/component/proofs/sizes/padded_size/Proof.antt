@@ -1,10 +1,9 @@
 -- `component::sizes::padded_size` meets its contract: 2^depth is at most 16, so nothing wraps.
 -- Assumes nothing.
-use Prim.Native.Nat.{_^_}
 use native.Mathlib.Omega.{arith}
 use borrow.Author.Needs.{needs}
 use Rattle.component.specs.Sizes.{paddedSize}
-use Rattle.component.proofs.SizeLaws.{power, power-bounds, padded-most}
+use Rattle.component.proofs.SizesLaws.{power, power-bounds, padded-most}
 use Rattle.component.proofs.sizes.padded_size.Statement.{statement}
 use Rattle.component.proofs.sizes.padded_size.Tie as tie
 

@@ -1,15 +1,15 @@
--- `component::subbands::left_of` meets its contract: past LL the remainder by 3 tells the orientation.
+-- `component::subbands::left_of` meets its contract: past LL the remainder by 3 tells the orientationOf.
 -- Assumes nothing.
 use mathlib.Core.Path.{sym, ap, _∙_}
 use Prim.Native.Nat.{_%_}
 use native.Mathlib.Omega.{arith}
-use Rattle.component.specs.Subbands.{orientation, leftOf}
-use Rattle.component.proofs.SubbandLaws.{detail, left-of-LH, left-of-others}
+use Rattle.component.specs.Subbands.{orientationOf, leftOf}
+use Rattle.component.proofs.SubbandsLaws.{detail, left-of-LH, left-of-others}
 use Rattle.component.proofs.subbands.left_of.Statement.{statement}
 use Rattle.component.proofs.subbands.left_of.Tie as tie
 
 returns : tie.Need-returns
-unfolding orientation leftOf
+unfolding orientationOf leftOf
 returns c = rw (c .if1 .taken)
 
 returns-2 : tie.Need-returns-2

@@ -1,14 +1,14 @@
--- `component::subbands::top_of` meets its contract: past LL the remainder by 3 tells the orientation.
+-- `component::subbands::top_of` meets its contract: past LL the remainder by 3 tells the orientationOf.
 -- Assumes nothing.
 use mathlib.Core.Path.{sym, ap, _∙_}
 use Prim.Native.Nat.{_%_}
-use Rattle.component.specs.Subbands.{orientation, topOf}
-use Rattle.component.proofs.SubbandLaws.{detail, top-of-HL, top-of-others}
+use Rattle.component.specs.Subbands.{orientationOf, topOf}
+use Rattle.component.proofs.SubbandsLaws.{detail, top-of-HL, top-of-others}
 use Rattle.component.proofs.subbands.top_of.Statement.{statement}
 use Rattle.component.proofs.subbands.top_of.Tie as tie
 
 returns : tie.Need-returns
-unfolding orientation topOf
+unfolding orientationOf topOf
 returns c = rw (c .if1 .taken)
 
 returns-2 : tie.Need-returns-2

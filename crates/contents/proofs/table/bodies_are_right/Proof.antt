@@ -9,7 +9,8 @@ use borrow.Author.Needs.{needs}
 use borrow.Author.Tests.{not-true, not-false}
 use lib.Dec.{eqb}
 use lib.ListN.{length}
-use Rattle.base.proofs.Everys.{all-none, all-more, all-not, and-true}
+use Rattle.base.proofs.EveryLaws.{all-none, all-more, all-not}
+use Rattle.base.proofs.Booleans.{and-true}
 use Rattle.base.specs.Every.{allBelow}
 use Rattle.contents.specs.Table.{lengthAt, bodyStart, entryIsRight}
 use Rattle.contents.proofs.TableLaws.{first-body, next-body}
@@ -23,8 +24,8 @@ Inv-loop file count end₀ k₀ end k =
 abbrev μ-loop : tie.MeasureT-loop
 μ-loop file count end₀ k₀ end k = count - k
 
-entry-place-requires : tie.Need-entry-place-requires Inv-loop μ-loop
-entry-place-requires c κs = search needs
+entry-offset-requires : tie.Need-entry-offset-requires Inv-loop μ-loop
+entry-offset-requires c κs = search needs
 
 loop-holds : tie.Need-loop-holds Inv-loop μ-loop
 loop-holds c =
@@ -40,8 +41,8 @@ returns c =
     rw (all-not (entryIsRight (start .args .file .now)) (start .args .count) (c .before .before .before .loop .k) (omega arith)
     (sym (c .before .entry-is-right .ensures) ∙ not-true _ (c .if1 .taken)))
 
-entry-place-requires-2 : tie.Need-entry-place-requires-2 Inv-loop μ-loop
-entry-place-requires-2 c κs = omega arith
+entry-offset-requires-2 : tie.Need-entry-offset-requires-2 Inv-loop μ-loop
+entry-offset-requires-2 c κs = omega arith
 
 add-four-bytes-at : tie.Need-add-four-bytes-at Inv-loop μ-loop
 add-four-bytes-at c = omega arith
@@ -63,7 +64,7 @@ length-read : (c : tie.After-four-bytes-at Inv-loop μ-loop) →
     let head = c .before .before .before .before .before in
     c .four-bytes-at .result ≡ lengthAt (head .before .before .before .args .file .now) (head .loop .k)
 unfolding lengthAt
-length-read c = rw (c .before .entry-place2 .ensures) at (c .four-bytes-at .ensures .0)
+length-read c = rw (c .before .entry-offset2 .ensures) at (c .four-bytes-at .ensures .0)
 
 loop-again : tie.Need-loop-again Inv-loop μ-loop
 loop-again c =
@@ -90,11 +91,11 @@ bodies-are-right-spec =
     (tie.spec
     Inv-loop
     μ-loop
-    entry-place-requires
+    entry-offset-requires
     loop-holds
     entry-is-right-requires
     returns
-    entry-place-requires-2
+    entry-offset-requires-2
     add-four-bytes-at
     four-bytes-at-requires
     add-end

@@ -7,8 +7,8 @@ use Rattle.contents.proofs.TableLaws.{entries-most, entry-inside, offse
 use Rattle.contents.proofs.table.entry_at.Statement.{statement}
 use Rattle.contents.proofs.table.entry_at.Tie as tie
 
-entry-place-requires : tie.Need-entry-place-requires
-entry-place-requires c κs =
+entry-offset-requires : tie.Need-entry-offset-requires
+entry-offset-requires c κs =
     let start = c .before in
     omega (arith, entries-most (start .args .file .now))
 
@@ -46,14 +46,14 @@ returns c =
       c .four-bytes-at2 .ensures .0,
       c .before .four-bytes-at .ensures .0,
       c .before .before .parameters-at .ensures,
-      c .before .before .before .entry-place .ensures,
+      c .before .before .before .entry-offset .ensures,
     )
 
 pub entry-at-spec : {M : Type 1} → statement M
 entry-at-spec =
     tie.close
     (tie.spec
-    entry-place-requires
+    entry-offset-requires
     parameters-at-requires
     add-four-bytes-at
     four-bytes-at-requires

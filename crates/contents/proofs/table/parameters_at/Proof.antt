@@ -5,8 +5,8 @@ use Rattle.contents.specs.Table.{parametersAt}
 use Rattle.contents.proofs.table.parameters_at.Statement.{statement}
 use Rattle.contents.proofs.table.parameters_at.Tie as tie
 
-entry-place-requires : tie.Need-entry-place-requires
-entry-place-requires c κs = search needs
+entry-offset-requires : tie.Need-entry-offset-requires
+entry-offset-requires c κs = search needs
 
 two-bytes-at-requires : tie.Need-two-bytes-at-requires
 two-bytes-at-requires c κs = search needs
@@ -58,14 +58,14 @@ returns c =
       c .before .before .before .before .byte-at .ensures .0,
       c .before .before .before .before .before .two-bytes-at2 .ensures .0,
       c .before .before .before .before .before .before .two-bytes-at .ensures .0,
-      c .before .before .before .before .before .before .before .entry-place .ensures,
+      c .before .before .before .before .before .before .before .entry-offset .ensures,
     )
 
 pub parameters-at-spec : {M : Type 1} → statement M
 parameters-at-spec =
     tie.close
     (tie.spec
-    entry-place-requires
+    entry-offset-requires
     two-bytes-at-requires
     add-two-bytes-at
     two-bytes-at-requires-2

@@ -18,8 +18,8 @@ returns-2 c = too-few _ (omega arith) (omega arith)
 returns-3 : tie.Need-returns-3
 returns-3 c = too-many _ (omega arith) (omega arith) (omega arith)
 
-entry-place-requires : tie.Need-entry-place-requires
-entry-place-requires c κs = search needs
+entry-offset-requires : tie.Need-entry-offset-requires
+entry-offset-requires c κs = search needs
 
 returns-4 : tie.Need-returns-4
 returns-4 c = table-outside _ (omega arith) (omega arith) (omega arith) (omega arith)
@@ -40,7 +40,7 @@ table-is-right-spec =
     stated-count-requires
     returns-2
     returns-3
-    entry-place-requires
+    entry-offset-requires
     returns-4
     bodies-are-right-requires
     returns-5)

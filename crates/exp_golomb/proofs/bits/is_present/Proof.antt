@@ -2,7 +2,7 @@
 -- Assumes nothing.
 use mathlib.Core.Path.{sym, _∙_}
 use borrow.Author.Tests.{le-ltb}
-use Rattle.exp_golomb.proofs.BitLaws.{present-second, present-past-end}
+use Rattle.exp_golomb.proofs.BitsLaws.{present-second, present-past-end}
 use Rattle.exp_golomb.proofs.bits.is_present.Statement.{statement}
 use Rattle.exp_golomb.proofs.bits.is_present.Tie as tie
 

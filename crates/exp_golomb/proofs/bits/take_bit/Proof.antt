@@ -8,7 +8,7 @@ use borrow.Author.Needs.{needs}
 use lib.ListN.{length}
 use denote.Ref.{now}
 use Rattle.exp_golomb.specs.Bits.{present, bitAt}
-use Rattle.exp_golomb.proofs.BitLaws.{present-below, take-present, take-past-stated, take-absent}
+use Rattle.exp_golomb.proofs.BitsLaws.{present-below, take-present, take-past-stated, take-absent}
 use Rattle.exp_golomb.proofs.bits.take_bit.Statement.{statement}
 use Rattle.exp_golomb.proofs.bits.take_bit.Tie as tie
 

@@ -5,7 +5,7 @@ use mathlib.Core.Logic.{⊎-elim}
 use native.Mathlib.Omega.{arith}
 use borrow.Author.Needs.{needs}
 use Rattle.exp_golomb.specs.Codes.{signed}
-use Rattle.exp_golomb.proofs.CodeLaws.{sign-refused, sign-none, sign-missing, sign-read}
+use Rattle.exp_golomb.proofs.CodesLaws.{sign-refused, sign-none, sign-missing, sign-read}
 use Rattle.exp_golomb.proofs.codes.read_signed.Statement.{statement}
 use Rattle.exp_golomb.proofs.codes.read_signed.Tie as tie
 

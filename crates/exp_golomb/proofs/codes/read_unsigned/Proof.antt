@@ -8,8 +8,8 @@ use borrow.Author.Needs.{needs}
 use lib.Dec.{lit<}
 use lib.Pow.{pow-mono}
 use Rattle.exp_golomb.specs.Codes.{codeFrom, unsigned}
-use Rattle.exp_golomb.proofs.BitLaws.{taken}
-use Rattle.exp_golomb.proofs.CodeLaws.{code-missing, code-ends, code-too-long, code-cut, code-goes-on, value-grows}
+use Rattle.exp_golomb.proofs.BitsLaws.{taken}
+use Rattle.exp_golomb.proofs.CodesLaws.{code-missing, code-ends, code-too-long, code-cut, code-goes-on, value-grows}
 use Rattle.exp_golomb.proofs.codes.read_unsigned.Statement.{statement}
 use Rattle.exp_golomb.proofs.codes.read_unsigned.Tie as tie
 

@@ -5,7 +5,7 @@ use mathlib.Core.Logic.{⊎-elim}
 use Prim.Native.Nat.{_-_, min}
 use native.Mathlib.Omega.{arith}
 use borrow.Author.Needs.{needs}
-use Rattle.lifting.specs.Layout.{sourceRow}
+use Rattle.filters.specs.Pictures.{sourceRow}
 use Rattle.lifting.proofs.columns.source_row.Statement.{statement}
 use Rattle.lifting.proofs.columns.source_row.Tie as tie
 

@@ -2,7 +2,7 @@
 -- Assumes nothing.
 use native.Mathlib.Omega.{arith}
 use borrow.Author.Needs.{needs}
-use Rattle.lifting.specs.Layout.{targetRow}
+use Rattle.filters.specs.Pictures.{targetRow}
 use Rattle.lifting.proofs.columns.target_row.Statement.{statement}
 use Rattle.lifting.proofs.columns.target_row.Tie as tie
 

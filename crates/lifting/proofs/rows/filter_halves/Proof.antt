@@ -1,45 +1,41 @@
 -- `lifting::rows::filter_halves` meets its contract: after k turns the row is what the first k steps make of it, and their new numbers fit;
--- the halves keep to the reach.
+-- the halves keep to the bounds.
 -- Assumes nothing.
-use mathlib.Core.Path.{_≡_, refl, sym, ap, _∙_}
+use mathlib.Core.Path.{_≡_, refl, sym, _∙_}
 use mathlib.Core.Bool.{true, false, false≢true}
 use mathlib.Core.List.{[], map}
 use Prim.Native.Nat.{_-_, _*_, _≤_, _<_}
 use native.Mathlib.Omega.{arith}
 use borrow.Author.Tests.{not-true, not-false}
-use lib.ListN.{length, getD, take, length-map, List·getD-map}
+use lib.ListN.{length, getD, take}
 use lib.Seq.{take-all}
-use Rattle.lines.specs.Buffers.{woven}
-use Rattle.lifting.specs.Layout.{Agree}
-use Rattle.lifting.specs.Passes.{rows, run, runAll, allNewFit}
-use Rattle.lifting.specs.Reach.{HalvesReach}
-use Rattle.lifting.specs.Table.{stepOf, Sane, stepsInUse, filterFrom}
-use Rattle.lifting.specs.declared.filters.LiftingStep.{LiftingStep}
-use Rattle.lifting.proofs.PassLaws.{passes-more, passes-stop}
-use Rattle.lifting.proofs.PairLaws.{twice-length}
-use Rattle.lifting.proofs.RowLaws.{rows-same}
-use Rattle.lifting.proofs.TableLaws.{steps-counted, step-in-use}
+use Rattle.lines.specs.Buffers.{interleaved}
+use Rattle.filters.specs.Pictures.{Agree}
+use Rattle.filters.specs.Passes.{rows, run, runAll, allNewFit}
+use Rattle.lifting.specs.LineBounds.{HalvesWithin}
+use Rattle.filters.specs.Table.{stepOf, WellFormedStep, stepsInUse, filterFrom}
+use Rattle.filters.specs.declared.filter.LiftingStep.{LiftingStep}
+use Rattle.filters.proofs.PassLaws.{passes-more, passes-stop}
+use Rattle.filters.proofs.LiftingLaws.{twice-length}
+use Rattle.filters.proofs.RowLaws.{rows-same}
+use Rattle.filters.proofs.TableLaws.{passes-counted, pass-inside, pass-in-use}
 use Rattle.lifting.proofs.rows.filter_halves.Statement.{statement}
 use Rattle.lifting.proofs.rows.filter_halves.Tie as tie
 
 abbrev Inv-loop : tie.InvT-loop
-Inv-loop halves₀ half count steps reach₀ k₀ halves reach k =
+Inv-loop halves₀ half count steps bounds₀ k₀ halves bounds k =
     let passes = take k (map rows (stepsInUse count steps)) in
     (k ≤ count)
-    × (allNewFit 1 (2 * half) passes (λ row. woven halves₀) ≡ true)
-    × Agree 1 (2 * half) (λ row. woven halves) (runAll 1 (2 * half) passes (λ row. woven halves₀))
-    × HalvesReach half reach halves
+    × (allNewFit 1 (2 * half) passes (λ row. interleaved halves₀) ≡ true)
+    × Agree 1 (2 * half) (λ row. interleaved halves) (runAll 1 (2 * half) passes (λ row. interleaved halves₀))
+    × HalvesWithin half bounds halves
 
 abbrev μ-loop : tie.MeasureT-loop
-μ-loop halves₀ half count steps reach₀ k₀ halves reach k = count - k
+μ-loop halves₀ half count steps bounds₀ k₀ halves bounds k = count - k
 
 loop-holds : tie.Need-loop-holds Inv-loop μ-loop
 unfolding runAll allNewFit
 loop-holds c = (omega arith, refl, (λ row x r h. refl), c .before .pre .1)
-
--- there are as many passes as steps in use
-counted : (c : tie.Start Inv-loop μ-loop) → length (map rows (filterFrom (c .args .filter) .steps)) ≡ c .args .filter .count
-counted c = length-map (filterFrom (c .args .filter) .steps) rows ∙ steps-counted (c .args .filter) (c .pre .0 .2 .there)
 
 -- the row of the next step: it is that step of the filter, and its pass is the next pass
 abbrev next : tie.In-loop Inv-loop μ-loop → LiftingStep
@@ -47,18 +43,16 @@ next c =
     getD (c .before .before .before .args .filter .steps) (c .before .loop .k)
     (record { even = false; adds = false; lead = 0; taps = []; count = 0; scale = 0; gain = 0 })
 
-sane : (c : tie.In-loop Inv-loop μ-loop) → Sane (next c)
-sane c = c .before .before .before .pre .0 .2 .each (c .before .loop .k) _ (c .loop-test .taken)
+formed : (c : tie.In-loop Inv-loop μ-loop) → WellFormedStep (next c)
+formed c = c .before .before .before .pre .0 .2 .each (c .before .loop .k) _ (c .loop-test .taken)
 
 inside-passes : (c : tie.In-loop Inv-loop μ-loop) → c .before .loop .k < length (map rows (filterFrom (c .before .before .before .args .filter) .steps))
-inside-passes c = rw (counted (c .before .before .before)) (c .loop-test .taken)
+inside-passes c = pass-inside (c .before .before .before .args .filter) (c .before .before .before .pre .0 .2 .there) rows (c .before .loop .k) (c .loop-test .taken)
 
 is-pass :
     (c : tie.In-loop Inv-loop μ-loop)
     → getD (map rows (filterFrom (c .before .before .before .args .filter) .steps)) (c .before .loop .k) (rows (stepOf (next c))) ≡ rows (stepOf (next c))
-is-pass c =
-    List·getD-map rows (filterFrom (c .before .before .before .args .filter) .steps) (c .before .loop .k) (stepOf (next c))
-    ∙ ap rows (step-in-use (c .before .before .before .args .filter) (c .before .before .before .pre .0 .2 .there) (c .before .loop .k) _ (c .loop-test .taken))
+is-pass c = pass-in-use (c .before .before .before .args .filter) (c .before .before .before .pre .0 .2 .there) rows (c .before .loop .k) _ (c .loop-test .taken)
 
 array-copy-out-step : tie.Need-array-copy-out-step Inv-loop μ-loop
 array-copy-out-step c = omega (arith, c .loop-test .taken, c .before .before .before .pre .0 .2 .few)
@@ -70,7 +64,7 @@ lift-halves-requires : tie.Need-lift-halves-requires Inv-loop μ-loop
 lift-halves-requires c κs =
     let turn = c .before .before in
     let start = turn .before .before .before in
-    ((start .pre .0 .0, start .pre .0 .1, sane turn), turn .before .loop .inv .3)
+    ((start .pre .0 .0, start .pre .0 .1, formed turn), turn .before .loop .inv .3)
 
 returns : tie.Need-returns Inv-loop μ-loop
 returns c =
@@ -83,11 +77,11 @@ returns c =
       λ wrong. absurd (false≢true wrong),
     )
 
-reach-after-requires : tie.Need-reach-after-requires Inv-loop μ-loop
-reach-after-requires c κs =
+bounds-after-requires : tie.Need-bounds-after-requires Inv-loop μ-loop
+bounds-after-requires c κs =
     let turn = c .before .before .before .before in
-    let reach = turn .before .loop .inv .3 in
-    (sane turn, reach .0, reach .1)
+    let bounds = turn .before .loop .inv .3 in
+    (formed turn, bounds .0, bounds .1)
 
 add-k : tie.Need-add-k Inv-loop μ-loop
 add-k c = omega (arith, c .before .before .before .before .before .loop-test .taken)
@@ -107,13 +101,13 @@ loop-again c =
     passes-more _ _ _ (head .loop .k) _ _ _ (inside-passes turn) (is-pass turn) same (head .loop .inv .1) (head .loop .inv .2) _
     (sym (called .ensures .0) ∙ went) (λ row x r h. called .ensures .1 .0 went x h)
     in
-    (omega (arith, turn .loop-test .taken), more .0, more .1, rw (c .reach-after .ensures) (called .ensures .1 .1 went))
+    (omega (arith, turn .loop-test .taken), more .0, more .1, rw (c .bounds-after .ensures) (called .ensures .1 .1 went))
 
 returns-2 : tie.Need-returns-2 Inv-loop μ-loop
 returns-2 c =
     let steps = filterFrom (c .before .before .before .args .filter) .steps in
     let all : take (c .before .loop .k) (map rows steps) ≡ map rows steps =
-    take-all (c .before .loop .k) (map rows steps) (rw (counted (c .before .before .before)) (c .loop-test .left))
+    take-all (c .before .loop .k) (map rows steps) (rw (passes-counted (c .before .before .before .args .filter) (c .before .before .before .pre .0 .2 .there) rows) (c .loop-test .left))
     in
     (sym (rw all at (c .before .loop .inv .1)), λ fits x h. (rw all at (c .before .loop .inv .2)) 0 x (omega arith) h)
 
@@ -128,7 +122,7 @@ filter-halves-spec =
     array-copy-out-step
     lift-halves-requires
     returns
-    reach-after-requires
+    bounds-after-requires
     add-k
     loop-less
     loop-again

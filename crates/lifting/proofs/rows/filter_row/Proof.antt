@@ -1,4 +1,4 @@
--- `lifting::rows::filter_row` meets its contract: what the steps make of the row in the line buffer is woven back.
+-- `lifting::rows::filter_row` meets its contract: what the steps make of the row in the line buffer is interleaved back.
 -- Assumes nothing.
 use mathlib.Core.Path.{refl, sym, _∙_}
 use mathlib.Core.Bool.{false≢true}
@@ -6,8 +6,8 @@ use Prim.Native.Nat.{_*_}
 use native.Mathlib.Omega.{arith}
 use borrow.Author.Needs.{needs}
 use borrow.Author.Tests.{not-true, not-false}
-use Rattle.lifting.specs.Table.{filterFrom}
-use Rattle.lifting.proofs.PlaneRows.{row-woven}
+use Rattle.filters.specs.Table.{filterFrom}
+use Rattle.lifting.proofs.PlaneRowLaws.{row-interleaved}
 use Rattle.lifting.proofs.rows.filter_row.Statement.{statement}
 use Rattle.lifting.proofs.rows.filter_row.Tie as tie
 
@@ -20,11 +20,11 @@ same-length c = search needs
 returns : tie.Need-returns
 returns c = (sym (not-true _ (c .if1 .taken)) ∙ c .before .filter-row-halves .ensures .0, λ wrong. absurd (false≢true wrong))
 
-mul-weave : tie.Need-mul-weave
-mul-weave c = search needs
+mul-interleave : tie.Need-mul-interleave
+mul-interleave c = search needs
 
-weave-requires : tie.Need-weave-requires
-weave-requires c κs = search needs
+interleave-requires : tie.Need-interleave-requires
+interleave-requires c κs = search needs
 
 same-length-2 : tie.Need-same-length-2
 same-length-2 c = search needs
@@ -36,9 +36,9 @@ returns-2 c =
     let args = tested .before .before .before .before .args in
     let went = not-false _ (tested .if1 .left) in (
       sym went ∙ filtered .ensures .0,
-      λ fits. c .before .weave .ensures
-          ∙ row-woven (filterFrom (args .filter) .steps) (args .filter .shift) (args .half) (args .place) (args .work .now) _
-          _ refl (filtered .ensures .1 went) (args .work .now) (args .place) (2 * args .half) (omega arith),
+      λ fits. c .before .interleave .ensures
+          ∙ row-interleaved (filterFrom (args .filter) .steps) (args .filter .shift) (args .half) (args .start) (args .work .now) _
+          _ refl (filtered .ensures .1 went) (args .work .now) (args .start) (2 * args .half) (omega arith),
     )
 
 pub filter-row-spec : {M : Type 1} → statement M
@@ -48,7 +48,7 @@ filter-row-spec =
     filter-row-halves-requires
     same-length
     returns
-    mul-weave
-    weave-requires
+    mul-interleave
+    interleave-requires
     same-length-2
     returns-2)

@@ -6,11 +6,11 @@ use native.Mathlib.Omega.{arith}
 use borrow.Author.Needs.{needs}
 use lib.IntN.{pos}
 use lib.ListN.{getD}
-use Rattle.lines.specs.Buffers.{woven}
-use Rattle.lifting.specs.Table.{filterFrom}
-use Rattle.lifting.specs.Layout.{halfPlace}
+use Rattle.lines.specs.Buffers.{interleaved}
+use Rattle.filters.specs.Table.{filterFrom}
+use Rattle.lifting.specs.Layout.{halfIndex}
 use Rattle.lifting.proofs.HalfLaws.{halves-copied, halves-measured}
-use Rattle.lifting.proofs.PlaneRows.{row-told, row-run}
+use Rattle.lifting.proofs.PlaneRowLaws.{row-told, row-run}
 use Rattle.lifting.proofs.rows.filter_row_halves.Statement.{statement}
 use Rattle.lifting.proofs.rows.filter_row_halves.Tie as tie
 
@@ -43,7 +43,7 @@ filter-halves-requires c κs =
     let low = first .copy-measured in
     let high = second .copy-measured2 in
     let within =
-    halves-measured (start .args .half) (start .args .place) (start .args .work .now) (start .args .halves .now) (low .last .0) (high .last .0) (start .pre .1) (omega arith)
+    halves-measured (start .args .half) (start .args .start) (start .args .work .now) (start .args .halves .now) (low .last .0) (high .last .0) (start .pre .1) (omega arith)
     (low .ensures .0) (high .ensures .0) (low .result) (high .result) (low .ensures .1) (high .ensures .1)
     in (
       (start .pre .0, start .pre .1, start .pre .3),
@@ -55,11 +55,11 @@ copied :
     (c : tie.After-copy-measured2) (x : ℕ)
     → let start = c .before .before .before .before in
     x < 2 * start .args .half
-    → woven (c .copy-measured2 .last .0) x ≡ getD (start .args .work .now) (start .args .place + halfPlace (start .args .half) x) (pos 0)
+    → interleaved (c .copy-measured2 .last .0) x ≡ getD (start .args .work .now) (start .args .start + halfIndex (start .args .half) x) (pos 0)
 copied c =
     let first = c .before .before in
     let start = first .before .before in
-    halves-copied (start .args .half) (start .args .place) (start .args .work .now) (start .args .halves .now) (first .copy-measured .last .0) (c .copy-measured2 .last .0)
+    halves-copied (start .args .half) (start .args .start) (start .args .work .now) (start .args .halves .now) (first .copy-measured .last .0) (c .copy-measured2 .last .0)
     (start .pre .1) (omega arith) (first .copy-measured .ensures .0) (c .copy-measured2 .ensures .0)
 
 returns : tie.Need-returns
@@ -69,10 +69,10 @@ returns c =
     let steps = filterFrom (start .args .filter) .steps in
     let halves = second .copy-measured2 .last .0 in (
       c .filter-halves .ensures .0
-          ∙ row-told steps (start .args .half) (start .args .place) (start .pre .0) (start .args .work .now) halves (copied second),
+          ∙ row-told steps (start .args .half) (start .args .start) (start .pre .0) (start .args .work .now) halves (copied second),
       λ fits x inside.
           c .filter-halves .ensures .1 fits x inside
-          ∙ row-run steps (start .args .half) (start .args .place) (start .pre .0) (start .args .work .now) halves (copied second) x inside,
+          ∙ row-run steps (start .args .half) (start .args .start) (start .pre .0) (start .args .work .now) halves (copied second) x inside,
     )
 
 pub filter-row-halves-spec : {M : Type 1} → statement M

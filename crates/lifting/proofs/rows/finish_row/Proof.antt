@@ -1,11 +1,11 @@
--- `lifting::rows::finish_row` meets its contract: what the steps make of the row is woven into the samples, and the row is zeroed.
+-- `lifting::rows::finish_row` meets its contract: what the steps make of the row is interleaved into the samples, and the row is zeroed.
 -- Assumes nothing.
 use mathlib.Core.Path.{refl, sym, _∙_}
 use mathlib.Core.Bool.{false≢true}
 use borrow.Author.Needs.{needs}
 use borrow.Author.Tests.{not-true, not-false}
-use Rattle.lifting.specs.Table.{filterFrom}
-use Rattle.lifting.proofs.PlaneRows.{row-woven}
+use Rattle.filters.specs.Table.{filterFrom}
+use Rattle.lifting.proofs.PlaneRowLaws.{row-interleaved}
 use Rattle.lifting.proofs.rows.finish_row.Statement.{statement}
 use Rattle.lifting.proofs.rows.finish_row.Tie as tie
 
@@ -19,8 +19,8 @@ returns : tie.Need-returns
 returns c =
     (sym (not-true _ (c .if1 .taken)) ∙ c .before .filter-row-halves .ensures .0, (λ wrong. absurd (false≢true wrong), λ wrong. absurd (false≢true wrong)))
 
-weave-requires : tie.Need-weave-requires
-weave-requires c κs = search needs
+interleave-requires : tie.Need-interleave-requires
+interleave-requires c κs = search needs
 
 mul-zero-part : tie.Need-mul-zero-part
 mul-zero-part c = search needs
@@ -44,9 +44,9 @@ returns-2 c =
     let went = not-false _ (tested .if1 .left) in (
       sym went ∙ filtered .ensures .0,
       (
-        λ fits. stored .weave .ensures
-            ∙ row-woven (filterFrom (args .filter) .steps) (args .filter .shift) (args .half) (args .place) (args .work .now) _
-            _ refl (filtered .ensures .1 went) (args .samples .now) (args .to) (args .count) (start .pre .1 .0),
+        λ fits. stored .interleave .ensures
+            ∙ row-interleaved (filterFrom (args .filter) .steps) (args .filter .shift) (args .half) (args .kept .start) (args .work .now) _
+            _ refl (filtered .ensures .1 went) (args .samples .now) (args .kept .to) (args .kept .count) (start .pre .1 .0),
         λ fits. c .before .zero-part .ensures,
       ),
     )
@@ -58,7 +58,7 @@ finish-row-spec =
     filter-row-halves-requires
     same-length
     returns
-    weave-requires
+    interleave-requires
     mul-zero-part
     zero-part-requires
     same-length-2

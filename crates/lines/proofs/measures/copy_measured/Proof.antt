@@ -10,19 +10,19 @@ use lib.ListN.{length, getD, length-set}
 use lib.Signed.{mag}
 use mir.Syntax.{w32}
 use Rattle.base.specs.Fill.{fill}
-use Rattle.base.proofs.Fills.{fill-none, fill-more}
-use Rattle.base.proofs.Magnitudes.{size-mag}
-use Rattle.base.proofs.Ranges.{back}
+use Rattle.base.proofs.FillLaws.{fill-none, fill-more}
+use Rattle.base.proofs.Integers.{size-mag}
+use Rattle.base.proofs.RangeLaws.{back}
 use Rattle.lines.proofs.measures.copy_measured.Statement.{statement}
 use Rattle.lines.proofs.measures.copy_measured.Tie as tie
 
 abbrev Inv-loop : tie.InvT-loop
-Inv-loop plane₀ place source from n most₀ x₀ plane most x =
-    (x ≤ n) × (length plane ≡ length plane₀) × (plane ≡ fill plane₀ place x (λ k. getD source (from + k) (pos 0)))
+Inv-loop plane₀ start source from n most₀ x₀ plane most x =
+    (x ≤ n) × (length plane ≡ length plane₀) × (plane ≡ fill plane₀ start x (λ k. getD source (from + k) (pos 0)))
     × ((k : ℕ) → k < x → mag (getD source (from + k) (pos 0)) ≤ most)
 
 abbrev μ-loop : tie.MeasureT-loop
-μ-loop plane₀ place source from n most₀ x₀ plane most x = n - x
+μ-loop plane₀ start source from n most₀ x₀ plane most x = n - x
 
 loop-holds : tie.Need-loop-holds Inv-loop μ-loop
 loop-holds c = (omega arith, refl, sym (fill-none _ _ _), λ k h. absurd (omega arith))

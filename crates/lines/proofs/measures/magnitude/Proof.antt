@@ -1,6 +1,6 @@
 -- `lines::measures::magnitude` meets its contract: a number below 0 is mirrored at −1/2.
 -- Assumes nothing.
-use mathlib.Core.Path.{_≡_, ap}
+use mathlib.Core.Path.{_≡_}
 use mathlib.Core.Bool.{true, false}
 use Prim.Native.Nat.{ℕ, _<_, _^_}
 use native.Mathlib.Omega.{arith}
@@ -9,7 +9,8 @@ use lib.IntN.{ℤ, pos, negsuc, natAbs}
 use lib.Signed.{mag, ltZ, nonNeg}
 use mir.Syntax.{w32}
 use mir.Val.{Fits}
-use Rattle.base.proofs.Ranges.{back, mirror-below}
+use Rattle.base.proofs.RangeLaws.{back}
+use Rattle.base.proofs.Integers.{mirror-below}
 use Rattle.lines.proofs.measures.magnitude.Statement.{statement}
 use Rattle.lines.proofs.measures.magnitude.Tie as tie
 

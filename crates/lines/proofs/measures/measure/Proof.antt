@@ -8,16 +8,16 @@ use lib.IntN.{pos}
 use lib.ListN.{getD}
 use lib.Signed.{mag}
 use mir.Syntax.{w32}
-use Rattle.base.proofs.Magnitudes.{size-mag}
-use Rattle.base.proofs.Ranges.{back}
+use Rattle.base.proofs.Integers.{size-mag}
+use Rattle.base.proofs.RangeLaws.{back}
 use Rattle.lines.proofs.measures.measure.Statement.{statement}
 use Rattle.lines.proofs.measures.measure.Tie as tie
 
 abbrev Inv-loop : tie.InvT-loop
-Inv-loop line place width most₀ x₀ most x = (x ≤ width) × ((k : ℕ) → k < x → mag (getD line (place + k) (pos 0)) ≤ most)
+Inv-loop line start width most₀ x₀ most x = (x ≤ width) × ((k : ℕ) → k < x → mag (getD line (start + k) (pos 0)) ≤ most)
 
 abbrev μ-loop : tie.MeasureT-loop
-μ-loop line place width most₀ x₀ most x = width - x
+μ-loop line start width most₀ x₀ most x = width - x
 
 loop-holds : tie.Need-loop-holds Inv-loop μ-loop
 loop-holds c = (omega arith, λ k h. absurd (omega arith))
@@ -47,7 +47,7 @@ loop-again : tie.Need-loop-again Inv-loop μ-loop
 loop-again c =
     let head = c .before .before .before .before in
     let joined = c .join .ensures in
-    let read = c .before .magnitude .ensures ∙ ap mag (back w32 (getD (head .before .args .line .now) (head .before .args .place + head .loop .x) (pos 0)) (c .before .before .magnitude-arg .given)) in
+    let read = c .before .magnitude .ensures ∙ ap mag (back w32 (getD (head .before .args .line .now) (head .before .args .start + head .loop .x) (pos 0)) (c .before .before .magnitude-arg .given)) in
     (omega arith, below-more _ _ (λ k h. omega (arith, head .loop .inv .1 k h, joined .0)) (omega (arith, read, joined .1)))
 
 returns : tie.Need-returns Inv-loop μ-loop
@@ -55,7 +55,7 @@ returns c =
     λ x h.
     let start = c .before .before in
     let all : c .before .loop .x ≡ start .args .width = omega arith in
-    let entry = getD (start .args .line .now) (start .args .place + x) (pos 0) in
+    let entry = getD (start .args .line .now) (start .args .start + x) (pos 0) in
     omega (arith, c .before .loop .inv .1 x (omega arith), size-mag entry)
 
 pub measure-spec : {M : Type 1} → statement M

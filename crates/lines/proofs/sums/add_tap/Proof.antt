@@ -9,20 +9,20 @@ use lib.ListN.{getD}
 use mir.Syntax.{w32, w64}
 use mir.Val.{toZ, ofZ}
 use Rattle.base.specs.Fill.{fill}
-use Rattle.base.proofs.Fills.{fill-none, fill-more, getD-fill-out}
-use Rattle.base.proofs.Ranges.{back}
+use Rattle.base.proofs.FillLaws.{fill-none, fill-more, getD-fill-out}
+use Rattle.base.proofs.RangeLaws.{back}
 use Rattle.lines.proofs.SumLaws.{product-small, product-fits, sum-fits, below-added}
 use Rattle.lines.proofs.sums.add_tap.Statement.{statement}
 use Rattle.lines.proofs.sums.add_tap.Tie as tie
 
 abbrev Inv-loop : tie.InvT-loop
-Inv-loop sums₀ source place width tap x₀ sums x =
+Inv-loop sums₀ source start width tap x₀ sums x =
     (x ≤ width)
-    × (sums ≡ fill sums₀ 0 x (λ k. getD sums₀ k (pos 0) +ℤ toZ w64 tap *ℤ getD source (place + k) (pos 0)))
-    × ((k : ℕ) → k < x → natAbs (toZ w64 tap *ℤ getD source (place + k) (pos 0)) ≤ 2 ^ 44)
+    × (sums ≡ fill sums₀ 0 x (λ k. getD sums₀ k (pos 0) +ℤ toZ w64 tap *ℤ getD source (start + k) (pos 0)))
+    × ((k : ℕ) → k < x → natAbs (toZ w64 tap *ℤ getD source (start + k) (pos 0)) ≤ 2 ^ 44)
 
 abbrev μ-loop : tie.MeasureT-loop
-μ-loop sums₀ source place width tap x₀ sums x = width - x
+μ-loop sums₀ source start width tap x₀ sums x = width - x
 
 loop-holds : tie.Need-loop-holds Inv-loop μ-loop
 loop-holds c = (omega arith, sym (fill-none _ _ _), λ k h. absurd (omega arith))
@@ -50,7 +50,7 @@ abbrev factor : tie.At-loop Inv-loop μ-loop → ℤ
 factor c = toZ w64 (ofZ w64 (c .before .args .tap))
 
 abbrev number : tie.At-loop Inv-loop μ-loop → ℤ
-number c = getD (c .before .args .source .now) (c .before .args .place + c .loop .x) (pos 0)
+number c = getD (c .before .args .source .now) (c .before .args .start + c .loop .x) (pos 0)
 
 abbrev sum : tie.At-loop Inv-loop μ-loop → ℤ
 sum c = getD (c .before .args .sums .now) (c .loop .x) (pos 0)

@@ -13,26 +13,27 @@ use mir.Val.{toZ, ofZ}
 use Rattle.base.specs.Every.{allBelow}
 use Rattle.base.specs.Fill.{fill}
 use Rattle.base.specs.Range.{fits32}
-use Rattle.base.proofs.Everys.{all-none, all-more, all-not, and-true}
-use Rattle.base.proofs.Fills.{fill-none, fill-more, getD-fill-out}
-use Rattle.base.proofs.Ranges.{back}
+use Rattle.base.proofs.EveryLaws.{all-none, all-more, all-not}
+use Rattle.base.proofs.Booleans.{and-true}
+use Rattle.base.proofs.FillLaws.{fill-none, fill-more, getD-fill-out}
+use Rattle.base.proofs.RangeLaws.{back}
 use Rattle.lines.specs.Sums.{changed}
 use Rattle.lines.proofs.sums.lift_line.Statement.{statement}
 use Rattle.lines.proofs.sums.lift_line.Tie as tie
 
--- the new number at a place of a line
+-- the new number at a start of a line
 abbrev new : List ℤ → ℕ → List ℤ → ℕ → Bool → ℕ → ℤ
-new line place sums scale adds x = changed adds scale (getD line (place + x) (pos 0)) (getD sums x (pos 0))
+new line start sums scale adds x = changed adds scale (getD line (start + x) (pos 0)) (getD sums x (pos 0))
 
 abbrev Inv-loop : tie.InvT-loop
-Inv-loop line₀ place sums width scale adds x₀ line x =
+Inv-loop line₀ start sums width scale adds x₀ line x =
     (x ≤ width)
     × (length line ≡ length line₀)
-    × (line ≡ fill line₀ place x (new line₀ place sums scale adds))
-    × (allBelow x (λ k. fits32 (new line₀ place sums scale adds k)) ≡ true)
+    × (line ≡ fill line₀ start x (new line₀ start sums scale adds))
+    × (allBelow x (λ k. fits32 (new line₀ start sums scale adds k)) ≡ true)
 
 abbrev μ-loop : tie.MeasureT-loop
-μ-loop line₀ place sums width scale adds x₀ line x = width - x
+μ-loop line₀ start sums width scale adds x₀ line x = width - x
 
 loop-holds : tie.Need-loop-holds Inv-loop μ-loop
 loop-holds c = (omega arith, refl, sym (fill-none _ _ _), all-none _)
@@ -60,15 +61,15 @@ lifted-requires c κs =
 
 -- the numbers that the line is to have, and that the loop makes them
 abbrev wanted : tie.At-loop Inv-loop μ-loop → ℕ → ℤ
-wanted c = let start = c .before in new (start .args .line .now) (start .args .place) (start .args .sums .now) (start .args .scale) (start .args .adds)
+wanted c = let start = c .before in new (start .args .line .now) (start .args .start) (start .args .sums .now) (start .args .scale) (start .args .adds)
 
 made : (c : tie.After-lifted Inv-loop μ-loop) → toZ w64 (ofZ w64 (c .lifted .result)) ≡ wanted (c .before .before .before .before) (c .before .before .before .before .loop .x)
 made c =
     let head = c .before .before .before .before in
     let start = head .before in
-    let at = start .args .place + head .loop .x in
+    let at = start .args .start + head .loop .x in
     let same : getD (head .loop .line) at (pos 0) ≡ getD (start .args .line .now) at (pos 0) =
-    rw (head .loop .inv .2) (getD-fill-out (start .args .line .now) (start .args .place) (wanted head) (head .loop .x) at (pos 0) (λ k below. omega arith)) in
+    rw (head .loop .inv .2) (getD-fill-out (start .args .line .now) (start .args .start) (wanted head) (head .loop .x) at (pos 0) (λ k below. omega arith)) in
     back w64 (c .lifted .result) (c .lifted .ok)
     ∙ c .lifted .ensures
     ∙ rw (back w32 (getD (head .loop .line) at (pos 0)) (c .before .before .lifted-arg .given), same, back w64 (getD (start .args .sums .now) (head .loop .x) (pos 0)) (c .before .lifted-arg2 .given)) refl

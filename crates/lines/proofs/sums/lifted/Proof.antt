@@ -6,7 +6,7 @@ use borrow.Author.Needs.{needs}
 use mir.Syntax.{w32, w64}
 use mir.Val.{toZ, ofZ}
 use Rattle.base.specs.Floor.{floorDiv}
-use Rattle.base.proofs.Ranges.{back}
+use Rattle.base.proofs.RangeLaws.{back}
 use Rattle.lines.specs.Sums.{changed}
 use Rattle.lines.proofs.SumLaws.{added-small, subtracted-small}
 use Rattle.lines.proofs.sums.lifted.Statement.{statement}

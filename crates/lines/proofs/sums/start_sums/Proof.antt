@@ -7,8 +7,8 @@ use lib.ListN.{length, length-set}
 use mir.Syntax.{w64}
 use mir.Val.{toZ}
 use Rattle.base.specs.Fill.{fill}
-use Rattle.base.proofs.Fills.{fill-none, fill-more}
-use Rattle.base.proofs.Ranges.{back}
+use Rattle.base.proofs.FillLaws.{fill-none, fill-more}
+use Rattle.base.proofs.RangeLaws.{back}
 use Rattle.lines.proofs.sums.start_sums.Statement.{statement}
 use Rattle.lines.proofs.sums.start_sums.Tie as tie
 

@@ -7,8 +7,8 @@ use lib.IntN.{ℤ, pos, _+ℤ_, _*ℤ_}
 use lib.ListN.{length, getD}
 use mir.Syntax.{w64}
 use mir.Val.{toZ, ofZ}
-use Rattle.base.proofs.Fills.{length-fill, getD-fill-start}
-use Rattle.base.proofs.Ranges.{back}
+use Rattle.base.proofs.FillLaws.{length-fill, getD-fill-start}
+use Rattle.base.proofs.RangeLaws.{back}
 use Rattle.lines.specs.Buffers.{Below}
 use Rattle.lines.specs.Sums.{sumBelow, tapAt}
 use Rattle.lines.proofs.SumLaws.{sum-none, sum-more}
@@ -16,14 +16,14 @@ use Rattle.lines.proofs.sums.sum_taps.Statement.{statement}
 use Rattle.lines.proofs.sums.sum_taps.Tie as tie
 
 abbrev Inv-loop : tie.InvT-loop
-Inv-loop sums₀ source width taps places count round t₀ sums t =
+Inv-loop sums₀ source width taps starts count round t₀ sums t =
     (t ≤ count)
     × (width ≤ length sums)
-    × ((x : ℕ) → x < width → getD sums x (pos 0) ≡ toZ w64 round +ℤ sumBelow (tapAt taps places source x) t)
+    × ((x : ℕ) → x < width → getD sums x (pos 0) ≡ toZ w64 round +ℤ sumBelow (tapAt taps starts source x) t)
     × Below sums width (2 ^ 44 * (t + 1))
 
 abbrev μ-loop : tie.MeasureT-loop
-μ-loop sums₀ source width taps places count round t₀ sums t = count - t
+μ-loop sums₀ source width taps starts count round t₀ sums t = count - t
 
 start-sums-requires : tie.Need-start-sums-requires Inv-loop μ-loop
 start-sums-requires c κs = omega arith
@@ -70,9 +70,9 @@ add-t c = omega arith
 loop-less : tie.Need-loop-less Inv-loop μ-loop
 loop-less c = omega arith
 
--- what each tap adds at a place, and that one was added
+-- what each tap adds at a start, and that one was added
 abbrev term : tie.At-loop Inv-loop μ-loop → ℕ → ℕ → ℤ
-term c = let start = c .before .before .before in tapAt (start .args .taps .now) (start .args .places .now) (start .args .source .now)
+term c = let start = c .before .before .before in tapAt (start .args .taps .now) (start .args .starts .now) (start .args .source .now)
 
 added : (c : tie.After-add-tap Inv-loop μ-loop) (x : ℕ) → x < c .before .before .before .before .before .before .before .before .args .width
     → getD (c .add-tap .last .0) x (pos 0) ≡ getD (c .before .before .before .before .before .loop .sums) x (pos 0) +ℤ term (c .before .before .before .before .before) x (c .before .before .before .before .before .loop .t)
@@ -81,9 +81,9 @@ added c x h =
     let head = c .before .before .before .before .before in
     let start = head .before .before .before in
     let tap = getD (start .args .taps .now) (head .loop .t) (pos 0) in
-    let place = getD (start .args .places .now) (head .loop .t) 0 in
+    let from = getD (start .args .starts .now) (head .loop .t) 0 in
     rw (c .add-tap .ensures .0, back w64 tap (c .before .add-tap-arg3 .given))
-    (getD-fill-start (head .loop .sums) (λ k. getD (head .loop .sums) k (pos 0) +ℤ tap *ℤ getD (start .args .source .now) (place + k) (pos 0)) (start .args .width) x (pos 0) h (omega arith))
+    (getD-fill-start (head .loop .sums) (λ k. getD (head .loop .sums) k (pos 0) +ℤ tap *ℤ getD (start .args .source .now) (from + k) (pos 0)) (start .args .width) x (pos 0) h (omega arith))
 
 loop-again : tie.Need-loop-again Inv-loop μ-loop
 loop-again c =

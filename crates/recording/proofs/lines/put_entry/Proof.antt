@@ -1,13 +1,11 @@
 -- `recording::lines::put_entry` meets its contract: the heading is put, then what the answer asks for.
 -- Assumes nothing.
-use mathlib.Core.Path.{refl, ap}
+use mathlib.Core.Path.{refl}
 use native.Mathlib.Omega.{arith}
-use Rattle.text.proofs.Pieces.{put-both}
-use mathlib.Core.List.{List, _++_}
-use mathlib.Core.Bool.{Bool, cond}
+use Rattle.text.proofs.PutLaws.{put-both}
 use borrow.Author.Tests.{eq-eqb, ne-eqb}
 use denote.Ref.{now}
-use Rattle.recording.specs.Output.{heading, pictureText, refusalText}
+use Rattle.recording.specs.Output.{entryLines}
 use borrow.Author.Needs.{needs}
 use Rattle.recording.proofs.lines.put_entry.Statement.{statement}
 use Rattle.recording.proofs.lines.put_entry.Tie as tie
@@ -22,6 +20,7 @@ same-length : tie.Need-same-length
 same-length c = search needs
 
 returns : tie.Need-returns
+unfolding entryLines
 returns c =
     let start = c .before .before .before .before .before .before .before .before .before .before .before in
     let before = now (start .args .text) in
@@ -40,6 +39,7 @@ same-length-2 : tie.Need-same-length-2
 same-length-2 c = search needs
 
 returns-2 : tie.Need-returns-2
+unfolding entryLines
 returns-2 c =
     let start = c .before .before .before .before .before .before .before .before .before .before .before in
     let before = now (start .args .text) in

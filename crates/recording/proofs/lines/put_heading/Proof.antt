@@ -1,11 +1,10 @@
 -- `recording::lines::put_heading` meets its contract: its pieces are put one after the other.
 -- Assumes nothing.
-use Rattle.text.specs.Text.{ascii, decimal}
 use mathlib.Core.List.{_++_}
 use denote.Ref.{now}
 use mathlib.Core.Path.{refl}
 use native.Mathlib.Omega.{arith}
-use Rattle.text.proofs.Pieces.{put-both}
+use Rattle.text.proofs.PutLaws.{put-both}
 use Rattle.text.specs.Text.{ascii, decimal}
 use Rattle.recording.specs.Output.{heading}
 use borrow.Author.Needs.{needs}

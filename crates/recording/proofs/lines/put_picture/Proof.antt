@@ -2,7 +2,7 @@
 -- Assumes nothing.
 use mathlib.Core.Path.{refl}
 use native.Mathlib.Omega.{arith}
-use Rattle.text.proofs.Pieces.{put-both}
+use Rattle.text.proofs.PutLaws.{put-both}
 use Rattle.recording.specs.Output.{pictureText}
 use borrow.Author.Needs.{needs}
 use Rattle.recording.proofs.lines.put_picture.Statement.{statement}

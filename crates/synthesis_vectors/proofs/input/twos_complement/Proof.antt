@@ -5,7 +5,7 @@ use native.Mathlib.Omega.{arith}
 use borrow.Author.Needs.{needs}
 use mir.Syntax.{w32}
 use mir.ValLaws.{toZ-pos}
-use Rattle.base.proofs.Ranges.{mirror-pos}
+use Rattle.base.proofs.Integers.{mirror-pos}
 use Rattle.synthesis_vectors.proofs.input.twos_complement.Statement.{statement}
 use Rattle.synthesis_vectors.proofs.input.twos_complement.Tie as tie
 

@@ -3,8 +3,8 @@
 use mathlib.Core.Path.{_∙_}
 use native.Mathlib.Omega.{arith}
 use borrow.Author.Needs.{needs}
-use Rattle.text.proofs.Places.{digits-decimal, fewest-most}
-use Rattle.text.proofs.Pieces.{put-same}
+use Rattle.text.proofs.TextLaws.{digits-decimal, fewest-most}
+use Rattle.text.proofs.PutLaws.{put-same}
 use Rattle.text.proofs.numbers.put_decimal.Statement.{statement}
 use Rattle.text.proofs.numbers.put_decimal.Tie as tie
 

@@ -6,9 +6,9 @@ use native.Mathlib.Omega.{arith}
 use borrow.Author.Needs.{needs}
 use lib.IntN.{ℤ}
 use mir.Syntax.{w32}
-use Rattle.base.proofs.Ranges.{back}
-use Rattle.text.specs.Text.{ascii, signed}
-use Rattle.text.proofs.Pieces.{put-both}
+use Rattle.base.proofs.RangeLaws.{back}
+use Rattle.text.specs.Text.{ascii, signedText}
+use Rattle.text.proofs.PutLaws.{put-both}
 use Rattle.text.proofs.numbers.put_next.Statement.{statement}
 use Rattle.text.proofs.numbers.put_next.Tie as tie
 
@@ -30,7 +30,7 @@ returns c =
     let start = c .before .before .before .before .before .before .before .before .before .before in
     let space = c .before .before .before .before .before .before .put-word .ensures in
     let put = c .before .before .put-signed .ensures in
-    let same = ap (λ (z : ℤ). ascii " " ++ signed z) (back w32 (start .args .number) (start .fits .number .sfits)) in
+    let same = ap (λ (z : ℤ). ascii " " ++ signedText z) (back w32 (start .args .number) (start .fits .number .sfits)) in
     (put-both _ _ _ _ _ _ _ _ _ same space (put .0), omega (arith, space .0, put .1))
 
 pub put-next-spec : {M : Type 1} → statement M

@@ -6,9 +6,11 @@ use borrow.Author.Needs.{needs}
 use lib.IntN.{pos}
 use lib.ListN.{length, getD, length-drop}
 use mir.Syntax.{w32}
-use Rattle.base.proofs.Ranges.{back}
+use Rattle.base.proofs.RangeLaws.{back}
+use Rattle.base.proofs.ListsLaws.{part-all}
 use Rattle.text.specs.Text.{ascii}
-use Rattle.text.proofs.Pieces.{put-same, put-both, row-none, row-some, part-all}
+use Rattle.text.proofs.PutLaws.{put-same, put-both}
+use Rattle.text.proofs.TextLaws.{row-none, row-some}
 use Rattle.text.proofs.numbers.put_row.Statement.{statement}
 use Rattle.text.proofs.numbers.put_row.Tie as tie
 

@@ -2,12 +2,16 @@
 -- Assumes nothing.
 use mathlib.Core.Path.{_≡_, refl, ap, _∙_}
 use Prim.Native.Nat.{ℕ, suc, _+_, _*_, _-_, _≤_}
-use native.Mathlib.Nat.{mul-suc}
+use native.Mathlib.Nat.{mul-suc, mul-comm}
 use native.Mathlib.Omega.{arith}
 use borrow.Author.Needs.{needs}
 use lib.ListN.{length}
-use Rattle.text.specs.Text.{Put, rows}
-use Rattle.text.proofs.Pieces.{put-none, put-same, put-both, rows-more, row-within, length-part}
+use Rattle.base.proofs.Grids.{row-room}
+use Rattle.base.proofs.ListsLaws.{length-part}
+use Rattle.text.specs.Put.{Put}
+use Rattle.text.specs.Text.{rowsText}
+use Rattle.text.proofs.PutLaws.{put-none, put-same, put-both}
+use Rattle.text.proofs.TextLaws.{rows-more}
 use Rattle.text.proofs.numbers.put_rows.Statement.{statement}
 use Rattle.text.proofs.numbers.put_rows.Tie as tie
 
@@ -17,13 +21,13 @@ Inv-loop text₀ at numbers width height end₀ from₀ y₀ text end from y =
     × (length text ≡ length text₀)
     × (from ≡ width * y)
     × (end ≤ at + 12 * from + y)
-    × Put at text₀ (rows width y numbers) end text
+    × Put at text₀ (rowsText width y numbers) end text
 
 abbrev μ-loop : tie.MeasureT-loop
 μ-loop text₀ at numbers width height end₀ from₀ y₀ text end from y = height - y
 
 loop-holds : tie.Need-loop-holds Inv-loop μ-loop
-unfolding rows
+unfolding rowsText
 loop-holds c = (omega arith, refl, omega arith, omega arith, put-none _ _)
 
 -- the next row ends within the plane
@@ -32,7 +36,7 @@ within :
     → c .before .loop .from + c .before .before .before .args .width ≤ length (c .before .before .before .args .numbers .now)
 within c =
     let start = c .before .before .before in
-    omega (arith, row-within (start .args .width) (c .before .loop .y) (start .args .height) (omega arith))
+    omega (arith, row-room (start .args .width) (c .before .loop .y) (start .args .height) (omega arith), mul-comm (start .args .width) (c .before .loop .y), mul-comm (start .args .width) (start .args .height))
 
 add-to : tie.Need-add-to Inv-loop μ-loop
 add-to c = omega (arith, within c)
@@ -85,7 +89,7 @@ returns : tie.Need-returns Inv-loop μ-loop
 returns c =
     let start = c .before .before .before in
     let all : c .before .loop .y ≡ start .args .height = omega arith in
-    let same = ap (λ (y : ℕ). rows (start .args .width) y (start .args .numbers .now)) all in
+    let same = ap (λ (y : ℕ). rowsText (start .args .width) y (start .args .numbers .now)) all in
     let area : c .before .loop .from ≡ start .args .width * start .args .height = rw all at (c .before .loop .inv .2) in
     (put-same _ _ _ _ _ _ same (c .before .loop .inv .4), omega arith)
 

@@ -7,10 +7,10 @@ use borrow.Author.Needs.{needs}
 use lib.IntN.{pos, natAbs}
 use lib.Signed.{ltZ}
 use mir.Syntax.{w32}
-use Rattle.base.proofs.Ranges.{back}
+use Rattle.base.proofs.RangeLaws.{back}
 use Rattle.text.specs.Text.{ascii}
-use Rattle.text.proofs.Pieces.{put-same, put-both}
-use Rattle.text.proofs.Places.{size-short, signed-below, signed-above}
+use Rattle.text.proofs.PutLaws.{put-same, put-both}
+use Rattle.text.proofs.TextLaws.{size-short, signed-below, signed-above}
 use Rattle.text.proofs.numbers.put_signed.Statement.{statement}
 use Rattle.text.proofs.numbers.put_signed.Tie as tie
 

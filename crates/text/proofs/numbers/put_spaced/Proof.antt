@@ -7,9 +7,11 @@ use lib.IntN.{pos}
 use lib.ListN.{length, take, getD}
 use lib.Seq.{take-length}
 use mir.Syntax.{w32}
-use Rattle.base.proofs.Ranges.{back}
-use Rattle.text.specs.Text.{Put, spaced}
-use Rattle.text.proofs.Pieces.{put-none, put-same, put-both, spaced-more}
+use Rattle.base.proofs.RangeLaws.{back}
+use Rattle.text.specs.Put.{Put}
+use Rattle.text.specs.Text.{spaced}
+use Rattle.text.proofs.PutLaws.{put-none, put-same, put-both}
+use Rattle.text.proofs.TextLaws.{spaced-more}
 use Rattle.text.proofs.numbers.put_spaced.Statement.{statement}
 use Rattle.text.proofs.numbers.put_spaced.Tie as tie
 

@@ -6,7 +6,7 @@ use native.Mathlib.Omega.{arith}
 use lib.IntN.{pos}
 use lib.ListN.{length, getD}
 use Rattle.base.proofs.Grids.{row-end, rows-stored}
-use Rattle.lifting.specs.Planes.{pictureOf}
+use Rattle.filters.specs.Planes.{pictureOf}
 use Rattle.transform.proofs.bands.copy_rows.Statement.{statement}
 use Rattle.transform.proofs.bands.copy_rows.Tie as tie
 

@@ -10,11 +10,11 @@ use lib.ListN.{length}
 use denote.Ref.{now}
 use borrow.Fn.Kinds.{In}
 use borrow.Fn.PlainCycle.{Measures, is, falls, and}
-use Rattle.base.proofs.Fills.{zeros-length}
+use Rattle.base.proofs.ListsLaws.{zeros-length}
 use Rattle.component.specs.Sizes.{sizeAt}
-use Rattle.lifting.specs.Filters.{Filter}
-use Rattle.lifting.specs.Passes.{Picture}
-use Rattle.lifting.specs.Table.{filterFrom}
+use Rattle.filters.specs.Filters.{Filter}
+use Rattle.filters.specs.Passes.{Picture}
+use Rattle.filters.specs.Table.{filterFrom}
 use Rattle.transform.specs.Geometry.{Geometry, Stands, coefficientPicture, workPicture, pictureAt, firstBadAt, levelInput, levelPicture, levelNumbersFit}
 use Rattle.transform.specs.Synthesis.{synthesis, levelFits, firstBadLevel}
 use Rattle.transform.proofs.Recursion.{bad-below, bad-none, bad-here, level-fits, level-picture}

@@ -4,7 +4,7 @@ use mathlib.Core.Path.{_≡_, sym, ap, _∙_}
 use Prim.Native.Nat.{ℕ, suc, _-_, _*_, _^_}
 use native.Mathlib.Omega.{arith}
 use borrow.Author.Needs.{needs}
-use Rattle.component.proofs.SizeLaws.{sizeAt-power}
+use Rattle.component.proofs.SizesLaws.{sizeAt-power}
 use Rattle.transform.proofs.GeometryLaws.{size-shifted}
 use Rattle.transform.proofs.levels.next_frame.Statement.{statement}
 use Rattle.transform.proofs.levels.next_frame.Tie as tie

@@ -1,12 +1,11 @@
 -- `transform::levels::put_low_band` meets its contract: the rows of the low band are apart in the planes.
 -- Assumes nothing.
-use mathlib.Core.Path.{_≡_, refl, sym, _∙_}
-use Prim.Native.Nat.{_-_, _*_, _%_, _^_, _≤_}
+use mathlib.Core.Path.{_≡_}
+use Prim.Native.Nat.{_-_, _*_, _%_, _^_}
 use native.Mathlib.Nat.{mul-le-mul-right}
 use native.Mathlib.Omega.{arith}
 use borrow.Author.Needs.{needs}
 use Rattle.component.specs.Sizes.{sizeAt}
-use Rattle.transform.specs.Geometry.{Stands}
 use Rattle.transform.proofs.GeometryLaws.{size-shifted, low-apart, low-inside, low-narrow, low-whole}
 use Rattle.transform.proofs.levels.put_low_band.Statement.{statement}
 use Rattle.transform.proofs.levels.put_low_band.Tie as tie

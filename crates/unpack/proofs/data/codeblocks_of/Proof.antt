@@ -7,7 +7,7 @@ use borrow.Author.Needs.{needs}
 use lib.ListN.{getD}
 use Rattle.component.specs.Subbands.{subbandAt, subbandLevel}
 use Rattle.component.specs.declared.subbands.Subband.{Subband}
-use Rattle.component.proofs.CheckLaws.{Counts, counts-at, width-most, height-most, depth-most}
+use Rattle.component.proofs.ChecksLaws.{Counts, counts-at, width-most, height-most, depth-most}
 use Rattle.unpack.specs.Subband.{codeblocksOf}
 use Rattle.unpack.proofs.data.codeblocks_of.Statement.{statement}
 use Rattle.unpack.proofs.data.codeblocks_of.Tie as tie

@@ -12,7 +12,7 @@ use denote.Ref.{now}
 use Rattle.exp_golomb.specs.Codes.{unsigned}
 use Rattle.exp_golomb.specs.declared.codes.Number.{Number}
 use Rattle.exp_golomb.specs.declared.codes.Number.the-variants.{Read}
-use Rattle.exp_golomb.proofs.Extent.{Reach, unsigned-reach}
+use Rattle.exp_golomb.proofs.Extent.{CodeEnd, unsigned-end}
 use Rattle.unpack.proofs.HeaderLaws.{number-open, no-length, no-data, no-index, header-read}
 use Rattle.unpack.proofs.header.read_header.Statement.{statement}
 use Rattle.unpack.proofs.header.read_header.Tie as tie
@@ -45,11 +45,11 @@ size-read c = sym (first (c .before .before .before)) ∙ c .before .length .giv
 
 size-reach : (c : tie.After-known-told) →
     let start = c .before .before .before .before .before in
-    Reach (start .args .at) 31 (min (8 * length (now (start .args .bytes))) (8 * length (now (start .args .bytes)))) (c .before .length .given .0 .1 .1 .0)
-size-reach c = unsigned-reach _ _ _ _ _ _ _ (size-read c)
+    CodeEnd (start .args .at) 31 (min (8 * length (now (start .args .bytes))) (8 * length (now (start .args .bytes)))) (c .before .length .given .0 .1 .1 .0)
+size-reach c = unsigned-end _ _ _ _ _ _ _ (size-read c)
 
 boundary-requires : tie.Need-boundary-requires
-boundary-requires c κs = omega (arith, size-reach (c .before) .near)
+boundary-requires c κs = omega (arith, size-reach (c .before) .bits-most)
 
 returns-2 : tie.Need-returns-2
 returns-2 c = rw (c .boundary .ensures) (sym (no-data _ _ _ _ _ (size-read (c .before .before)) (c .before .if1 .taken)))
@@ -66,7 +66,7 @@ refused-at-requires-2 c κs = search needs
 second : (c : tie.After-read-unsigned2) → c .read-unsigned2 .result ≡ numberAt (c .before .before .before .before .before .before .before) (c .before .before .before .length .given .0 .1 .1 .0)
 second c =
     c .read-unsigned2 .ensures
-    ∙ number-open (now (c .before .before .before .before .before .before .before .args .bytes)) 18446744073709551615 _ (omega (arith, size-reach (c .before .before) .near))
+    ∙ number-open (now (c .before .before .before .before .before .before .before .args .bytes)) 18446744073709551615 _ (omega (arith, size-reach (c .before .before) .bits-most))
 
 returns-3 : tie.Need-returns-3
 returns-3 c =
@@ -79,7 +79,7 @@ index-read : (c : tie.After-known-told2) → numberAt (c .before .before .before
 index-read c = sym (second (c .before .before .before)) ∙ c .before .index-code .given .1
 
 boundary-requires-2 : tie.Need-boundary-requires-2
-boundary-requires-2 c κs = omega (arith, unsigned-reach _ _ _ _ _ _ _ (index-read c) .near, size-reach (c .before .before .before .before .before) .near)
+boundary-requires-2 c κs = omega (arith, unsigned-end _ _ _ _ _ _ _ (index-read c) .bits-most, size-reach (c .before .before .before .before .before) .bits-most)
 
 cast-t12 : tie.Need-cast-t12
 cast-t12 c = search needs

@@ -1,0 +1,51 @@
+// Taps that are the same from both ends, as pairs of equal taps, counted from the middle pair outward. There are four at most; a pair that there is
+// not has the tap 0 and reads what the middle pair reads.
+ghost use mathlib.Core.Path.{_≡_};
+ghost use Prim.Native.Nat.{ℕ, _≤_, _<_, _^_};
+ghost use lib.IntN.{pos, natAbs};
+ghost use lib.ListN.{getD};
+ghost use Rattle.lifting32.specs.Pairs.{pairTap, pairIndex, pairOrMiddle};
+use base::signed;
+
+// The tap of pair j.
+pub fn pair_tap(taps: &[i64; 8], half: usize, j: usize) -> i32
+    requires { ⌜ (half ≤ 4) × ((t : ℕ) → t < half → natAbs (getD (now taps) t (pos 0)) < 2 ^ 31) ⌝ }
+    ensures { λ r. ⌜ r ≡ pairTap (now (taps .entry)) half j ⌝ }
+{
+    if j < half {
+        return signed::narrow(taps[half - 1 - j]);
+    }
+    0
+}
+
+// Where the taps of the pairs read from: the earlier ones, then the later ones.
+pub fn pair_indices(starts: &[usize; 8], half: usize) -> [usize; 8]
+    requires { ⌜ (1 ≤ half) × (half ≤ 4) ⌝ }
+    ensures { λ r. ⌜ ((j : ℕ) → j < 8 → getD r j 0 ≡ pairIndex (now (starts .entry)) half j) ⌝ }
+{
+    let mut indices = [0usize; 8];
+    let mut j = 0;
+    while j < 8 {
+        indices[j] = pair_index(starts, half, j);
+        j += 1;
+    }
+    indices
+}
+
+// Where entry j of that list reads from.
+fn pair_index(starts: &[usize; 8], half: usize, j: usize) -> usize
+    requires { ⌜ (1 ≤ half) × (half ≤ 4) × (j < 8) ⌝ }
+    ensures { λ r. ⌜ r ≡ pairIndex (now (starts .entry)) half j ⌝ }
+{
+    if j < 4 {
+        return starts[half - 1 - pair_or_middle(half, j)];
+    }
+    starts[half + pair_or_middle(half, j - 4)]
+}
+
+// The pair, or the middle one where there is no such pair.
+fn pair_or_middle(half: usize, j: usize) -> usize
+    ensures { λ r. ⌜ r ≡ pairOrMiddle half j ⌝ }
+{
+    if j < half { j } else { 0 }
+}
