@@ -10,7 +10,7 @@ use native.Mathlib.Decide.{ℕ-discrete}
 use native.Mathlib.Omega.{arith}
 use lib.Dec.{eqb}
 use lib.IntN.{ℤ, pos}
-use lib.ListN.{length, getD}
+use lib.ListN.{getD}
 use borrow.Author.Tests.{eq-eqb, ne-eqb}
 use Rattle.base.specs.Walk.{walk}
 use Rattle.base.proofs.WalkLaws.{walk-flat, walk-holds}
@@ -22,10 +22,11 @@ use Rattle.coefficients.specs.Reading.{Run, goesOn, stops, going}
 use Rattle.coefficients.specs.Values.{after}
 use Rattle.coefficients.specs.declared.reading.Progress.{Progress}
 use Rattle.coefficients.specs.declared.reading.Progress.the-variants.{At, Refused}
-use Rattle.coefficients.proofs.ReadingLaws.{Stays, walk-keeps, rectangle-stays}
-use Rattle.rectangles.proofs.AreasLaws.{rectangle-keeps, rectangle-length}
+use Rattle.coefficients.proofs.ReadingLaws.{Stays, rectangle-stays}
+use Rattle.rectangles.proofs.AreasLaws.{rectangle-keeps}
 use Rattle.codeblocks.specs.Codeblocks.{codeblockArea, onFlag, codeblockValues, codeblock, codeblocks}
-use Rattle.codeblocks.specs.Blocks.{countOf, blockArea, blockBefore, Counted, Placed, ClearBlocks}
+use Rattle.codeblocks.specs.Blocks.{countOf, blockArea, blockBefore, Counted, Placed}
+use Rattle.codeblocks.specs.Rest.{ClearBlocks}
 use Rattle.codeblocks.specs.declared.CodeblockGrid.{CodeblockGrid}
 use Rattle.codeblocks.proofs.BlocksLaws.{value-lies, value-elsewhere}
 
@@ -67,12 +68,6 @@ module _ (bytes : List ℕ) (end origin : ℕ) (scale : ℕ → ℕ) (b : Codebl
   unfolding codeblocks
   codeblocks-flat r = walk-flat block (b .across) (b .down) r ∙ ap (λ (n : ℕ). walk (λ m. block (m / b .across) (m % b .across)) 0 n r) (mul-comm (b .down) (b .across))
 
-  -- and leave a refused run as it is
-  pub codeblocks-stay : Stays (codeblocks bytes end origin scale b)
-  codeblocks-stay status bit plane =
-      codeblocks-flat (stops status bit plane)
-      ∙ walk-keeps (λ m. block (m / b .across) (m % b .across)) (λ m. block-stays (m / b .across) (m % b .across)) 0 (countOf b) status bit plane
-
   -- whatever the values of each codeblock keep, all of them keep
   module _ (Q : List ℤ → Type 0) where
     -- a step keeps it
@@ -102,7 +97,7 @@ module _ (bytes : List ℕ) (end origin : ℕ) (scale : ℕ → ℕ) (b : Codebl
         rw (codeblocks-flat r)
         (walk-holds (λ t. Q (t .plane)) (λ m. block (m / b .across) (m % b .across)) 0 (countOf b) (λ m below. block-holds (m / b .across) (m % b .across) (each m (omega arith))) r here)
 
-  -- no entry outside the subband changes, and no length
+  -- no entry outside the subband changes
   pub codeblocks-keep : Counted b → (j : ℕ) → ((row column : ℕ) → InSubband (b .subband) row column → row * b .stride + column ≢ j) →
       (r : Run) → getD (codeblocks bytes end origin scale b r .plane) j (pos 0) ≡ getD (r .plane) j (pos 0)
   unfolding codeblockValues
@@ -110,11 +105,6 @@ module _ (bytes : List ℕ) (end origin : ℕ) (scale : ℕ → ℕ) (b : Codebl
       codeblocks-hold (λ plane. getD plane j (pos 0) ≡ getD (r .plane) j (pos 0))
       (λ m below t here. rectangle-keeps bytes end origin scale (blockArea b m) j (λ i inside. value-elsewhere b counted j outside m i below inside) t ∙ here)
       r refl
-
-  pub codeblocks-length : (r : Run) → length (codeblocks bytes end origin scale b r .plane) ≡ length (r .plane)
-  unfolding codeblockValues
-  codeblocks-length r =
-      codeblocks-hold (λ plane. length plane ≡ length (r .plane)) (λ m below t here. rectangle-length bytes end origin scale (blockArea b m) t ∙ here) r refl
 
 -- before any codeblock is begun, all entries that are to be read hold zeros where those of the subband do
 pub clear-blocks : (b : CodeblockGrid) (plane : List ℤ) → Placed b plane →

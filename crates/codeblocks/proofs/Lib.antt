@@ -2,6 +2,6 @@
 pub mod CodeblockTiling
 pub mod BlocksLaws
 pub mod CodeblocksLaws
-pub mod FlagLaws
+pub mod FlagsLaws
 pub mod RestLaws
-pub mod TurnLaws
+pub mod PortionsLaws

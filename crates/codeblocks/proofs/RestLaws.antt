@@ -22,7 +22,9 @@ use Rattle.coefficients.proofs.ReadingLaws.{Stays, walk-keeps}
 use Rattle.rectangles.specs.Areas.{sizeOf, areaValues}
 use Rattle.rectangles.proofs.AreasLaws.{area-whole, area-over, area-stays}
 use Rattle.codeblocks.specs.Codeblocks.{codeblockValues, codeblock, codeblocks}
-use Rattle.codeblocks.specs.Blocks.{countOf, blockArea, blockAt, blockBefore, areaBefore, restOfBlocks, BlocksRead}
+use Rattle.codeblocks.specs.Blocks.{countOf, blockArea, blockAt, blockBefore, areaBefore}
+use Rattle.codeblocks.specs.Rest.{restOfBlocks}
+use Rattle.codeblocks.specs.Portions.{BlocksRead}
 use Rattle.codeblocks.specs.declared.CodeblockGrid.{CodeblockGrid}
 use Rattle.codeblocks.specs.declared.Position.{Position}
 use Rattle.codeblocks.specs.declared.Reached.{Reached}

@@ -3,5 +3,5 @@ pub mod QuantiserLaws
 pub mod ScalingLaws
 pub mod ReadingLaws
 pub mod ValuesLaws
-pub mod AheadLaws
-pub mod PortionLaws
+pub mod BatchesLaws
+pub mod PortionsLaws

@@ -6,7 +6,7 @@ use mathlib.Core.Bool.{Bool, true, false}
 use mathlib.Core.List.{List}
 use Prim.Native.Nat.{ℕ, _+_, _*_}
 use lib.IntN.{ℤ, pos}
-use lib.ListN.{length, getD, set, length-set}
+use lib.ListN.{getD, set}
 use lib.Seq.{getD-set-other}
 use Rattle.base.specs.Range.{fits32}
 use Rattle.base.specs.Sign.{withSign}
@@ -86,15 +86,11 @@ module _ (bytes : List ℕ) (end origin : ℕ) (scale : ℕ → ℕ) where
       by (At at) = read (signed bytes end true at)
       by (Refused status bit) = here
 
-  -- so it changes no entry but its own, and no length
+  -- so it changes no entry but its own
   pub value-keeps : (index j : ℕ) → index ≢ j → (r : Run) → getD (value bytes end origin scale (λ v plane. set plane index v) r .plane) j (pos 0) ≡ getD (r .plane) j (pos 0)
   value-keeps index j apart r =
       value-holds (λ v plane. set plane index v) (λ plane. getD plane j (pos 0) ≡ getD (r .plane) j (pos 0))
       (λ v plane same. getD-set-other plane index j v (pos 0) (λ e. apart (sym e)) ∙ same) r refl
-
-  pub value-length : (index : ℕ) (r : Run) → length (value bytes end origin scale (λ v plane. set plane index v) r .plane) ≡ length (r .plane)
-  value-length index r =
-      value-holds (λ v plane. set plane index v) (λ plane. length plane ≡ length (r .plane)) (λ v plane same. simp length-set same) r refl
 
   pub rectangle-stays : (a : Rectangle) → Stays (rectangleValues bytes end origin scale a)
   unfolding rectangleValues

@@ -7,13 +7,13 @@ use Prim.Native.Nat.{ℕ, zero, suc, _+_, _*_, _/_, _≤_, _<_}
 use native.Mathlib.Nat.{mul-le-mul-right}
 use native.Mathlib.Omega.{arith}
 use lib.IntN.{pos}
-use lib.ListN.{length, getD, set}
+use lib.ListN.{getD, set}
 use Rattle.base.specs.Walk.{walk}
 use Rattle.base.proofs.WalkLaws.{walk-none, walk-more, walk-split}
 use Rattle.coefficients.specs.Reading.{Run}
 use Rattle.coefficients.specs.Values.{indexOf, entry, entries}
 use Rattle.coefficients.specs.declared.values.Layout.{Layout}
-use Rattle.coefficients.proofs.ReadingLaws.{Stays, walk-keeps, value-stays, value-keeps, value-length}
+use Rattle.coefficients.proofs.ReadingLaws.{Stays, walk-keeps, value-stays, value-keeps}
 
 module _ (bytes : List ℕ) (end origin : ℕ) (scale index : ℕ → ℕ) where
   abbrev from : ℕ → ℕ → Run → Run
@@ -50,7 +50,7 @@ module _ (bytes : List ℕ) (end origin : ℕ) (scale index : ℕ → ℕ) where
   unfolding entries
   entries-adds i m n r = walk-split one i m n r
 
-  -- they change no entry but their own, and no length
+  -- they change no entry but their own
   pub entries-keep : (i n j : ℕ) → ((k : ℕ) → i ≤ k → k < i + n → index k ≢ j) → (r : Run) → getD (from i n r .plane) j (pos 0) ≡ getD (r .plane) j (pos 0)
   unfolding entries entry
   entries-keep i zero j apart r = ap (λ (t : Run). getD (t .plane) j (pos 0)) (walk-none one i r)
@@ -61,15 +61,6 @@ module _ (bytes : List ℕ) (end origin : ℕ) (scale index : ℕ → ℕ) where
     where
       kept : (k : ℕ) → index k ≢ j → (t : Run) → getD (one k t .plane) j (pos 0) ≡ getD (t .plane) j (pos 0)
       kept k apart-k t = value-keeps bytes end origin scale (index k) j apart-k t
-
-  pub entries-length : (i n : ℕ) (r : Run) → length (from i n r .plane) ≡ length (r .plane)
-  unfolding entries entry
-  entries-length i zero r = ap (λ (t : Run). length (t .plane)) (walk-none one i r)
-  entries-length i (suc n) r =
-      ap (λ (t : Run). length (t .plane)) (walk-more one i n r) ∙ kept (i + n) (walk one i n r) ∙ entries-length i n r
-    where
-      kept : (k : ℕ) (t : Run) → length (one k t .plane) ≡ length (t .plane)
-      kept k t = value-length bytes end origin scale (index k) t
 
 -- later values of a layout go to later entries
 pub index-grows : (l : Layout) (i j : ℕ) → i < j → indexOf l i < indexOf l j

@@ -4,3 +4,5 @@ pub mod Reading
 -- The code's own forms
 pub mod Scaling
 pub mod Values
+pub mod Batches
+pub mod Portions

@@ -6,10 +6,13 @@ ghost use Prim.Native.Nat.{_+_, _-_, _≤_, _<_, _^_};
 ghost use lib.ListN.{length, set};
 ghost use Rattle.base.specs.Sign.{withSign};
 ghost use Rattle.exp_golomb.specs.Codes.{nextOf};
-ghost use Rattle.lookups.specs.Lookups.{isWindow, KnowsCodes};
+ghost use Rattle.lookups.specs.Windows.{isWindow};
+ghost use Rattle.lookups.specs.Lookups.{KnowsCodes};
 ghost use Rattle.coefficients.specs.Reading.{store};
 ghost use Rattle.coefficients.specs.Scaling.{scaleOf, Bounded, smallFit};
-ghost use Rattle.coefficients.specs.Values.{after, indexOf, Ready, Decoding, Sound, notRead, Reads, ReadsAhead, AllRead};
+ghost use Rattle.coefficients.specs.Values.{after, indexOf, Ready, Decoding};
+ghost use Rattle.coefficients.specs.Portions.{Sound, notRead, Reads, AllRead};
+ghost use Rattle.coefficients.specs.Batches.{ReadsAhead};
 use crate::quantiser::Quantiser;
 use crate::quantiser::dequantised;
 use crate::quantiser::small_fit;
@@ -141,7 +144,7 @@ fn read_window(
     }
 }
 
-// Reads values by the bits of a window: the last four code by code, all that are left, or 32 of them, at once where they are zeros, and others by
+// Reads values by the bits of a window: the last four one by one; of more, all that are left, or 32, at once where they are zeros; others by
 // lookups. How many is free: whatever the count, they are the values that the bits begin with.
 fn read_batch(
     plane: &mut [i32],
@@ -180,7 +183,7 @@ fn read_batch(
     read_lookups(plane, layout, from, window, table, small)
 }
 
-// Reads values by the bits of a window where the layout's end is far: 32 at once where they are zeros, others by lookups.
+// Reads values by the bits of a window where 63 or more are left: 32 at once where they are zeros, others by lookups.
 fn read_many(
     plane: &mut [i32],
     layout: Layout,

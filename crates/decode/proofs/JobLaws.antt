@@ -21,8 +21,8 @@ use Rattle.component.proofs.ChecksLaws.{passed, refused-none}
 use Rattle.unpack.specs.Job.{UnpackResult, unpacked, outcome as unpackOutcome}
 use Rattle.unpack.proofs.JobLaws.{refused-zeros}
 use Rattle.transform.specs.Job.{SynthesisResult, synthesised, outcome as synthesisOutcome}
-use Rattle.transform.proofs.Jobs.{refused-zeros as synthesis-zeros}
 use Rattle.decode.specs.Job.{DecodeResult, outcome, unchanged, zeroed, accepted, unpackedAndSynthesised, decoded}
+use Rattle.transform.proofs.JobLaws.{refused-zeros as synthesis-zeros}
 
 module _ (p : Parameters) (bytes : List ℕ) (coefficients work samples : List ℤ) where
   abbrev status : ℕ

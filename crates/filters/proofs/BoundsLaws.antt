@@ -2,34 +2,35 @@
 -- each of the seven filters over small numbers never leaves 32 bits.
 -- Assumes nothing.
 use mathlib.Core.Path.{_≡_, refl, ap, _∙_}
-use mathlib.Core.Bool.{Bool, true, false, cond, _&&_}
+use mathlib.Core.Bool.{Bool, true, false, cond, _&&_, not}
 use mathlib.Core.List.{List, [], _∷_, map}
 use Prim.Native.Nat.{ℕ, zero, suc, _+_, _*_, _/_, _^_, _≤_, _<_}
-use native.Mathlib.Nat.{le-refl, le-trans, mul-le-mul, le-div-iff-mul-le}
+use native.Mathlib.Nat.{le-refl, le-trans, mul-le-mul, le-div-iff-mul-le, mul-le-mul-left}
 use native.Mathlib.Omega.{arith}
-use borrow.Author.Tests.{ltb-true, lt-ltb, le-ltb}
 use lib.Dec.{ltb}
 use lib.IntN.{ℤ, pos, negsuc, natAbs, _+ℤ_, _*ℤ_}
 use lib.ListN.{length, getD, take}
 use lib.Pow.{pow-pos}
+use borrow.Author.Tests.{ltb-true, lt-ltb, le-ltb}
 use Rattle.base.specs.Every.{allBelow}
 use Rattle.base.specs.Floor.{floorDiv}
 use Rattle.base.specs.Range.{fits32}
 use Rattle.base.proofs.EveryLaws.{all-at}
-use Rattle.base.proofs.Booleans.{and-left, and-right}
+use Rattle.base.proofs.Booleans.{and-left, and-right, and-true}
 use Rattle.base.proofs.Integers.{mag-size, size-mag, size-add, size-sub}
 use Rattle.base.proofs.RangeLaws.{below-fits32, fits32-below}
 use Rattle.lines.specs.Buffers.{Within}
 use Rattle.lines.specs.Sums.{sumBelow, sizesBelow, tapAt, changed}
-use Rattle.lines.proofs.SumLaws.{sizes-front, sizes-product, sum-sizes}
+use Rattle.lines.proofs.SumsLaws.{sizes-front, sizes-product, sum-sizes}
 use Rattle.filters.specs.Lifting.{Step, changesEven, adds, rounding}
 use Rattle.filters.specs.Filters.{filterOf, deslauriersDubuc97, leGall53, deslauriersDubuc137, haarSteps, haar, haarWithShift, fidelity, daubechies97}
 use Rattle.filters.specs.Bounds.{sumMost, newMost, staysSmall, targetAfter, boundOf, sourceBound, targetBound, boundsAfter}
 use Rattle.filters.specs.Table.{stepOf, sizesOf, gainOf, WellFormedStep}
 use Rattle.filters.specs.declared.filter.LiftingStep.{LiftingStep}
 use Rattle.filters.specs.declared.bounds.Bounds.{Bounds}
-use Rattle.filters.proofs.RoundingLaws.{rounding-most}
-use Rattle.filters.proofs.TapLaws.{type-says}
+use Rattle.filters.proofs.LiftingLaws.{rounding-most}
+use Rattle.filters.proofs.TableLaws.{type-says}
+use Rattle.base.proofs.Parity.{each-parity}
 
 -- a quotient of a number that is no larger, and the size of a quotient rounded down
 quotient-most : (a b d : ℕ) → 1 ≤ d → a ≤ b → a / d ≤ b / d
@@ -205,6 +206,41 @@ bounds-most r bounds even odd = by (r .even) refl
     by : (e : Bool) → r .even ≡ e → (boundsAfter r bounds .even ≤ 2 ^ 32) × (boundsAfter r bounds .odd ≤ 2 ^ 32)
     by true e = rw (after-even r bounds e) (omega (arith, after-most r (bounds .odd) (bounds .even)), odd)
     by false e = rw (after-odd r bounds e) (even, omega (arith, after-most r (bounds .even) (bounds .odd)))
+
+-- Larger numbers have larger bounds after a step.
+module _ (r : LiftingStep) (s s' t t' : ℕ) (hs : s ≤ s') (ht : t ≤ t') where
+  sum-grows : sumMost r s ≤ sumMost r s'
+  unfolding sumMost
+  sum-grows = omega (arith, mul-le-mul-left (r .gain) hs)
+
+  new-grows : newMost r s t ≤ newMost r s' t'
+  unfolding newMost
+  new-grows = omega (arith, quotient-most (sumMost r s) (sumMost r s') (2 ^ r .scale) (pow-pos (r .scale)) sum-grows)
+
+  small-before : staysSmall r s' t' ≡ true → staysSmall r s t ≡ true
+  unfolding staysSmall
+  small-before small =
+      and-true _ _
+      (lt-ltb (sumMost r s) (2 ^ 31) (omega (arith, sum-grows, ltb-true (sumMost r s') (2 ^ 31) (and-left _ _ small))))
+      (lt-ltb (newMost r s t) (2 ^ 31) (omega (arith, new-grows, ltb-true (newMost r s' t') (2 ^ 31) (and-right (ltb (sumMost r s') (2 ^ 31)) _ small))))
+
+  target-grows : targetAfter r s t ≤ targetAfter r s' t'
+  unfolding targetAfter
+  target-grows = by (staysSmall r s' t') refl
+    where
+      by : (small : Bool) → staysSmall r s' t' ≡ small → cond (staysSmall r s t) (newMost r s t) (2 ^ 31) ≤ cond (staysSmall r s' t') (newMost r s' t') (2 ^ 31)
+      by true e = rw (e, small-before e) new-grows
+      by false e = rw e (after-most r s t)
+
+-- the bounds after a step
+pub step-grows :
+    (r : LiftingStep) (bounds bounds' : Bounds) → ((even : Bool) → boundOf bounds even ≤ boundOf bounds' even)
+    → (even : Bool) → boundOf (boundsAfter r bounds) even ≤ boundOf (boundsAfter r bounds') even
+step-grows r bounds bounds' h even =
+    each-parity (r .even) (λ e. boundOf (boundsAfter r bounds) e ≤ boundOf (boundsAfter r bounds') e)
+    (rw (target-bound-after r bounds, target-bound-after r bounds') (target-grows r _ _ _ _ (h (not (r .even))) (h (r .even))))
+    (rw (source-bound-after r bounds, source-bound-after r bounds') (h (not (r .even))))
+    even
 
 -- Whether a step stays small from bounds on, and whether all steps of a pass do.
 abbrev staysFrom : LiftingStep → Bounds → Bool

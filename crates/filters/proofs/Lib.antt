@@ -1,9 +1,7 @@
--- The laws of lifting steps, of filters and of passes, for this crate and those above it.
+-- The laws of lifting steps, of filters, passes and planes, for this crate and those above it.
 pub mod LiftingLaws
-pub mod PassLaws
-pub mod RowLaws
-pub mod FilterFits
-pub mod TapLaws
-pub mod RoundingLaws
+pub mod PassesLaws
+pub mod PlanesLaws
 pub mod TableLaws
+pub mod PicturesLaws
 pub mod BoundsLaws

@@ -1,17 +1,25 @@
--- The laws of `lift`, over any taps, scale and even length: a step reads only elements that it does not change,
--- so the exchanged step undoes it.
+-- The laws of `lift`, over any taps, scale and even length: a step reads only elements that it does not change, so the exchanged step undoes it;
+-- of `tapSum`, tap by tap; and of `rounding`, as the code makes it, and how small it is.
 -- Assumes nothing.
 use mathlib.Core.Path.{_≡_, refl, sym, ap, _∙_, subst}
 use mathlib.Core.Bool.{Bool, true, false, not, cond}
 use mathlib.Core.List.{List, [], _∷_}
-use Prim.Native.Nat.{ℕ, suc, _-_, _*_, _/_, _%_, _≤_, _<_}
-use native.Mathlib.Nat.{mul-suc}
-use native.Mathlib.Numerals.{add-two}
+use Prim.Native.Nat.{ℕ, suc, _-_, _*_, _/_, _%_, _≤_, _<_, zero, _^_}
+use native.Mathlib.Nat.{mul-suc, one-mul, mod-eq-of-lt}
+use native.Mathlib.Numerals.{add-two, one-add}
 use native.Mathlib.Omega.{arith}
-use lib.Dec.{eqb}
-use lib.IntN.{ℤ, pos, negsuc, _+ℤ_, _-ℤ_, _*ℤ_, sucℤ, suc-pred, -ℤ-one, +ℤ-negℤ-cancel, -ℤ-+ℤ-cancel}
+use lib.Dec.{eqb, lit≤}
+use lib.IntN.{ℤ, pos, negsuc, _+ℤ_, _-ℤ_, _*ℤ_, sucℤ, suc-pred, -ℤ-one, +ℤ-negℤ-cancel, -ℤ-+ℤ-cancel, natAbs, +ℤ-idr, +ℤ-assoc}
+use lib.Pow.{pow-lt, pow-mono}
+use lib.ListN.{length, getD}
 use borrow.Author.Tests.{ne-eqb}
-use Rattle.filters.specs.Lifting.{Line, Step, StepType, type1, type2, type3, type4, changesEven, adds, clamp, readPosition, tapSum, update, changes, lift, exchangeType, exchange}
+use mir.Syntax.{w64}
+use mir.Val.{toZ, ofZ}
+use Rattle.filters.specs.Lifting.{Line, Step, StepType, type1, type2, type3, type4, changesEven, adds, clamp, readPosition, tapSum, update, changes, lift, exchangeType, exchange, rounding}
+use Rattle.base.proofs.Integers.{mag-size}
+use Rattle.base.proofs.RangeLaws.{back}
+use Rattle.lines.specs.Sums.{sumBelow}
+use Rattle.lines.proofs.SumsLaws.{sum-front}
 
 -- The length of a line that is lifted: even, and not 0.
 pub record EvenLength (N : ℕ) : Type 0 where
@@ -147,3 +155,40 @@ module _ (N : ℕ) (size : EvenLength N) where
   pub undoes-exchange : (s : Step) (A : Line) (x : ℕ) → lift s N (lift (exchange s) N A) x ≡ A x
   undoes-exchange s A x =
       subst (λ (t : Step). lift t N (lift (exchange s) N A) x ≡ A x) (exchange-twice s) (exchange-undoes (exchange s) A x)
+
+-- one offset on, and then t more
+next-offset : (i : ℤ) (t : ℕ) → i +ℤ pos 1 +ℤ pos t ≡ i +ℤ pos (suc t)
+next-offset i t = +ℤ-assoc i (pos 1) (pos t) ∙ rw one-add
+
+-- document 01's sum, tap by tap
+pub tap-sum :
+    (even : Bool) (N : ℕ) (A : Line) (n : ℕ) (i : ℤ) (taps : List ℤ)
+    → tapSum even N A n i taps ≡ sumBelow (λ t. getD taps t (pos 0) *ℤ A (readPosition even N n (i +ℤ pos t))) (length taps)
+unfolding tapSum sumBelow
+tap-sum even N A n i [] = refl
+tap-sum even N A n i (x ∷ xs) =
+    rw (tap-sum even N A n (i +ℤ pos 1) xs)
+    (sym
+    (sum-front (λ t. getD (x ∷ xs) t (pos 0) *ℤ A (readPosition even N n (i +ℤ pos t))) (length xs)
+    ∙ simp (+ℤ-idr, next-offset)))
+
+-- a small power of two, as the code makes it, and as document 01 says it
+pub power-small : (x : ℕ) → x < 12 → 2 ^ x < 2 ^ 12
+power-small x h = pow-lt h
+
+pub shifted-one : (x : ℕ) → x < 12 → 1 * 2 ^ x % 2 ^ 64 ≡ 2 ^ x
+shifted-one x h = rw one-mul (mod-eq-of-lt (omega (arith, power-small x h)))
+
+pub rounding-power : (s : ℕ) → 1 ≤ s → rounding s ≡ pos (2 ^ (s - 1))
+unfolding rounding
+rounding-power zero h = absurd (omega arith)
+rounding-power (suc s) h = ap (λ n. pos (2 ^ n)) (omega arith)
+
+-- the rounding of a scale is small, and so it is what its bits say
+pub rounding-most : (s : ℕ) → s ≤ 12 → natAbs (rounding s) ≤ 2 ^ 11
+unfolding rounding
+rounding-most zero h = lit≤ tt
+rounding-most (suc s) h = pow-mono {i = s} {j = 11} (omega arith)
+
+pub rounding-back : (s : ℕ) (z : ℤ) → s ≤ 12 → z ≡ rounding s → toZ w64 (ofZ w64 z) ≡ rounding s
+rounding-back s z h e = rw e (back w64 (rounding s) (omega (arith, mag-size (rounding s), rounding-most s h)))

@@ -1,4 +1,5 @@
--- What ties the table of filters to document 01's: one test of each of its two lists, which is computed, and what it says of every entry.
+-- What ties the table of filters to document 01's: one test of each of its two lists, which is computed, and what it says of every entry. And what
+-- follows of a filter whose steps change every element of a line: where its new numbers fit, the numbers that it leaves in the end fit.
 -- Assumes nothing.
 use mathlib.Core.Path.{_≡_, refl, sym, ap, _∙_}
 use mathlib.Core.Logic.{_≢_}
@@ -18,12 +19,16 @@ use Rattle.base.proofs.EveryLaws.{all-at}
 use Rattle.base.proofs.Booleans.{and-left, and-right}
 use Rattle.filters.specs.Lifting.{Step, StepType, type1, type2, type3, type4, changes, changesEven, adds}
 use Rattle.filters.specs.Filters.{filterTable, filterOf, deslauriersDubuc97, leGall53, deslauriersDubuc137, haarSteps, haar, haarWithShift, fidelity, daubechies97}
-use Rattle.filters.specs.Passes.{Pass}
+use Rattle.filters.specs.Passes.{Pass, Picture, rows, run, runAll, assigns, newFit, allNewFit}
 use Rattle.filters.specs.Table.{listedType, listedStep, tableSteps, listedFilter, typeOf, stepOf, sizesOf, gainOf, leadOf, recordOf, WellFormedStep, filterFrom, changedBySome, WellFormed, RowListed, FilterListed, StepsListed, FiltersListed, StepAt, StepsFrom}
 use Rattle.filters.specs.declared.filter.LiftingFilter.{LiftingFilter}
 use Rattle.filters.specs.declared.filter.LiftingStep.{LiftingStep}
 use Rattle.filters.specs.declared.table.TableFilter.{TableFilter}
 use Rattle.filters.specs.declared.table.TableStep.{TableStep}
+use Rattle.base.specs.Range.{fits32}
+use Rattle.lines.specs.Buffers.{shifted}
+use Rattle.lines.proofs.BuffersLaws.{shifted-fits}
+use Rattle.filters.proofs.PassesLaws.{new-each, run-keeps}
 
 -- Whether all tests of a list pass, and so each of them.
 unfoldable pub allOf : List Bool → Bool
@@ -302,3 +307,57 @@ module _ (wavelet : ℕ) (known : wavelet ≤ 6) (row : TableFilter) (listed : F
         each = λ k other below. steps k other (omega arith) .1;
         all-changed = λ x. rw (ap (λ g. g .steps) same-filter) (all-changed wavelet x known);
       }
+
+-- the type of a step says what it was made from
+pub type-says : (even added : Bool) → (changesEven (typeOf even added) ≡ even) × (adds (typeOf even added) ≡ added)
+unfolding typeOf changesEven adds
+type-says true true = (refl, refl)
+type-says true false = (refl, refl)
+type-says false true = (refl, refl)
+type-says false false = (refl, refl)
+
+-- Whether some of the passes assigns an element a new number.
+unfoldable assigned : List Pass → ℕ → ℕ → Bool
+assigned [] row column = false
+assigned (p ∷ ps) row column = assigns p row column || assigned ps row column
+
+-- a test beside one that fails
+or-false : (a : Bool) → a || false ≡ true → a ≡ true
+or-false true e = refl
+or-false false e = e
+
+-- a test that a pass decides
+by-pass : (a b old new : Bool) → (a ≡ true → new ≡ true) → (a ≡ false → new ≡ old) → old || (a || b) ≡ true → new || b ≡ true
+by-pass true b old new assigned kept e = rw (assigned refl)
+by-pass false b old new assigned kept e = rw (kept refl) e
+
+module _ (h w row column : ℕ) (r : row < h) (c : column < w) where
+  -- an element that is assigned by some of the passes fits in the end, and so does one that fitted before them
+  element-fits : (ps : List Pass) (P : Picture) → allNewFit h w ps P ≡ true → fits32 (P row column) || assigned ps row column ≡ true → fits32 (runAll h w ps P row column) ≡ true
+  unfolding runAll allNewFit assigned
+  element-fits [] P new known = or-false (fits32 (P row column)) known
+  element-fits (p ∷ ps) P new known =
+      element-fits ps (run h w p P) (and-right (newFit h w p (run h w p P)) _ new)
+      (by-pass (assigns p row column) (assigned ps row column) (fits32 (P row column)) (fits32 (run h w p P row column))
+      (new-each h w p (run h w p P) (and-left _ _ new) row column r c)
+      (λ kept. rw (run-keeps h w p P row column kept))
+      known)
+
+-- passes over rows assign what their steps change
+assigned-rows : (ss : List Step) (row x : ℕ) → assigned (map rows ss) row x ≡ changedBySome ss x
+unfolding assigned assigns changedBySome
+assigned-rows [] row x = refl
+assigned-rows (s ∷ ss) row x = ap (λ (b : Bool). changes (s .type) x || b) (assigned-rows ss row x)
+
+-- what is true where either side of a test is
+or-right : (a b : Bool) → b ≡ true → a || b ≡ true
+or-right true b e = refl
+or-right false b e = e
+
+-- where the new numbers of a filter's steps fit, its numbers in the end fit, shifted or not
+pub filter-fits :
+    (h w : ℕ) (steps : List Step) (shift : Bool) (P : Picture) → ((x : ℕ) → changedBySome steps x ≡ true) → allNewFit h w (map rows steps) P ≡ true
+    → (row x : ℕ) → row < h → x < w → fits32 (shifted shift (runAll h w (map rows steps) P row x)) ≡ true
+filter-fits h w steps shift P changed new row x r c =
+    shifted-fits shift (runAll h w (map rows steps) P row x)
+    (element-fits h w row x r c (map rows steps) P new (or-right (fits32 (P row x)) _ (assigned-rows steps row x ∙ changed x)))

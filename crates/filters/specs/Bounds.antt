@@ -1,4 +1,4 @@
--- How large the numbers of a pass may become, step by step. These are the code's own forms; no definition of the format rests on them.
+-- The code's own forms: how large the numbers of a pass may become, step by step. No definition of the format rests on them.
 use Prim.Native.Nat.{ℕ, _+_, _*_, _/_, _^_}
 use mathlib.Core.Bool.{Bool, not, cond, _&&_}
 use lib.Dec.{ltb}

@@ -12,16 +12,16 @@ pub record Filter : Type 0 where
   pub shift : Bool
 
 -- "type; D; taps; S"
-abbrev step : StepType → ℤ → List ℤ → ℕ → Step
-step t d taps s = record { type = t; first = d; taps = taps; scale = s }
+abbrev entry : StepType → ℤ → List ℤ → ℕ → Step
+entry t d taps s = record { type = t; first = d; taps = taps; scale = s }
 
 -- Index 0, Deslauriers-Dubuc (9,7): "2;0;1,1;2, then 3;−1;−1,9,9,−1;4", shift 1
 unfoldable pub deslauriersDubuc97 : Filter
 deslauriersDubuc97 =
     record {
       steps =
-          step type2 (pos 0) (pos 1 ∷ pos 1 ∷ []) 2
-          ∷ step type3 (negsuc 0) (negsuc 0 ∷ pos 9 ∷ pos 9 ∷ negsuc 0 ∷ []) 4
+          entry type2 (pos 0) (pos 1 ∷ pos 1 ∷ []) 2
+          ∷ entry type3 (negsuc 0) (negsuc 0 ∷ pos 9 ∷ pos 9 ∷ negsuc 0 ∷ []) 4
           ∷ [];
       shift = true;
     }
@@ -30,7 +30,7 @@ deslauriersDubuc97 =
 unfoldable pub leGall53 : Filter
 leGall53 =
     record {
-      steps = step type2 (pos 0) (pos 1 ∷ pos 1 ∷ []) 2 ∷ step type3 (pos 0) (pos 1 ∷ pos 1 ∷ []) 1 ∷ [];
+      steps = entry type2 (pos 0) (pos 1 ∷ pos 1 ∷ []) 2 ∷ entry type3 (pos 0) (pos 1 ∷ pos 1 ∷ []) 1 ∷ [];
       shift = true;
     }
 
@@ -39,15 +39,15 @@ unfoldable pub deslauriersDubuc137 : Filter
 deslauriersDubuc137 =
     record {
       steps =
-          step type2 (negsuc 0) (negsuc 0 ∷ pos 9 ∷ pos 9 ∷ negsuc 0 ∷ []) 5
-          ∷ step type3 (negsuc 0) (negsuc 0 ∷ pos 9 ∷ pos 9 ∷ negsuc 0 ∷ []) 4
+          entry type2 (negsuc 0) (negsuc 0 ∷ pos 9 ∷ pos 9 ∷ negsuc 0 ∷ []) 5
+          ∷ entry type3 (negsuc 0) (negsuc 0 ∷ pos 9 ∷ pos 9 ∷ negsuc 0 ∷ []) 4
           ∷ [];
       shift = true;
     }
 
 -- Haar, the steps of indices 3 and 4: "2;1;1;1, then 3;0;1;0"
 unfoldable pub haarSteps : List Step
-haarSteps = step type2 (pos 1) (pos 1 ∷ []) 1 ∷ step type3 (pos 0) (pos 1 ∷ []) 0 ∷ []
+haarSteps = entry type2 (pos 1) (pos 1 ∷ []) 1 ∷ entry type3 (pos 0) (pos 1 ∷ []) 0 ∷ []
 
 -- Index 3, Haar without a shift: shift 0
 unfoldable pub haar : Filter
@@ -62,8 +62,8 @@ unfoldable pub fidelity : Filter
 fidelity =
     record {
       steps =
-          step type3 (negsuc 2) (negsuc 1 ∷ pos 10 ∷ negsuc 24 ∷ pos 81 ∷ pos 81 ∷ negsuc 24 ∷ pos 10 ∷ negsuc 1 ∷ []) 8
-          ∷ step type2 (negsuc 2) (negsuc 7 ∷ pos 21 ∷ negsuc 45 ∷ pos 161 ∷ pos 161 ∷ negsuc 45 ∷ pos 21 ∷ negsuc 7 ∷ []) 8
+          entry type3 (negsuc 2) (negsuc 1 ∷ pos 10 ∷ negsuc 24 ∷ pos 81 ∷ pos 81 ∷ negsuc 24 ∷ pos 10 ∷ negsuc 1 ∷ []) 8
+          ∷ entry type2 (negsuc 2) (negsuc 7 ∷ pos 21 ∷ negsuc 45 ∷ pos 161 ∷ pos 161 ∷ negsuc 45 ∷ pos 21 ∷ negsuc 7 ∷ []) 8
           ∷ [];
       shift = false;
     }
@@ -73,10 +73,10 @@ unfoldable pub daubechies97 : Filter
 daubechies97 =
     record {
       steps =
-          step type2 (pos 0) (pos 1817 ∷ pos 1817 ∷ []) 12
-          ∷ step type4 (pos 0) (pos 3616 ∷ pos 3616 ∷ []) 12
-          ∷ step type1 (pos 0) (pos 217 ∷ pos 217 ∷ []) 12
-          ∷ step type3 (pos 0) (pos 6497 ∷ pos 6497 ∷ []) 12
+          entry type2 (pos 0) (pos 1817 ∷ pos 1817 ∷ []) 12
+          ∷ entry type4 (pos 0) (pos 3616 ∷ pos 3616 ∷ []) 12
+          ∷ entry type1 (pos 0) (pos 217 ∷ pos 217 ∷ []) 12
+          ∷ entry type3 (pos 0) (pos 6497 ∷ pos 6497 ∷ []) 12
           ∷ [];
       shift = true;
     }

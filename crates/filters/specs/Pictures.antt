@@ -1,5 +1,5 @@
--- Pictures that agree in their first rows and columns; the row that a step changes in a pair of rows, and the rows that its taps read. These are
--- the code's own forms; no definition of the format rests on them.
+-- The code's own forms: pictures that agree in their first rows and columns; the row that a step changes in a pair of rows, and the rows that its
+-- taps read. No definition of the format rests on them.
 use mathlib.Core.Path.{_≡_}
 use mathlib.Core.Bool.{Bool, cond}
 use Prim.Native.Nat.{ℕ, _+_, _-_, _*_, _<_, min}

@@ -1,5 +1,5 @@
--- The table of steps as the code holds it, the step that each row of it stands for, and a step and a filter as the passes run them. These are the
--- code's own forms; the filters that they are tied to stand in Filters.antt.
+-- The code's own forms: the table of steps, the step that each row of it stands for, and a step and a filter as the passes run them. The filters
+-- that they are tied to stand in Filters.antt.
 use mathlib.Core.Path.{_≡_}
 use Prim.Native.Nat.{ℕ, _+_, _^_, _≤_, _<_}
 use mathlib.Core.Bool.{Bool, true, false, cond, _||_}

@@ -7,13 +7,12 @@ ghost use lib.ListN.{length, getD, take};
 ghost use lib.Signed.{mag};
 ghost use Rattle.filters.specs.Lifting.{changesEven, adds};
 ghost use Rattle.filters.specs.Filters.{filterOf};
-ghost use Rattle.filters.specs.Table.{listedType, StepsListed, FiltersListed, leadOf, sizesOf, recordOf, StepsFrom};
-ghost use Rattle.filters.specs.Table.{WellFormedStep, WellFormed, filterFrom};
+ghost use Rattle.filters.specs.Table.{listedType, StepsListed, FiltersListed, leadOf, sizesOf, recordOf, StepsFrom, WellFormedStep, WellFormed, filterFrom};
 use crate::filter::LiftingFilter;
 use crate::filter::LiftingStep;
 use base::signed;
 
-// "Types 1 and 2 change each A[2n] .. types 3 and 4 each A[2n+1]"; "types 1 and 3 add .. 2 and 4 subtract".
+// The four types of step.
 pub enum Kind {
     One,
     Two,
@@ -21,12 +20,13 @@ pub enum Kind {
     Four,
 }
 
-// A step as document 01 lists it: "type; D; taps; S", the taps with zeros behind them and then how many they are.
+// A step as document 01 lists it: type, D, taps, S; the taps with zeros behind them, and then how many they are.
 pub struct TableStep(pub Kind, pub i64, pub [i64; 8], pub usize, pub u32);
 
 // A filter of the table: where its steps start, how many it has, and whether its shift is 1.
 pub struct TableFilter(pub usize, pub usize, pub bool);
 
+// The steps of the filters, in document 01's order. Filter 4 has those of filter 3.
 const STEPS: [TableStep; 14] = [
     // 0: Deslauriers-Dubuc (9,7)
     TableStep(Kind::Two, 0, [1, 1, 0, 0, 0, 0, 0, 0], 2, 2),
@@ -50,6 +50,7 @@ const STEPS: [TableStep; 14] = [
     TableStep(Kind::Three, 0, [6497, 6497, 0, 0, 0, 0, 0, 0], 2, 12),
 ];
 
+// Filters 0 to 6.
 const FILTERS: [TableFilter; 7] = [
     TableFilter(0, 2, true),
     TableFilter(2, 2, true),

@@ -1,5 +1,5 @@
--- Lines whose numbers keep to bounds: the rows of a frame, and the halves of a row in the line buffer. These are the code's own forms; no
--- definition of the format rests on them.
+-- The code's own forms: lines whose numbers keep to bounds, the rows of a frame and the halves of a row in the line buffer. No definition of the
+-- format rests on them.
 use Prim.Native.Nat.{ℕ, _+_, _*_, _^_, _≤_, _<_}
 use mathlib.Core.List.{List}
 use lib.IntN.{ℤ}

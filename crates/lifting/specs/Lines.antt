@@ -1,5 +1,4 @@
--- What a step makes of a line: of numbers in a plane, and of a row of a picture. These are the code's own
--- forms; no definition of the format rests on them.
+-- The code's own forms: what a step makes of a line, of numbers in a plane and of a row of a picture. No definition of the format rests on them.
 use mathlib.Core.Path.{_≡_}
 use mathlib.Core.Logic.{_≢_}
 use mathlib.Core.Bool.{Bool, true}

@@ -16,7 +16,7 @@ use Rattle.base.proofs.FillLaws.{fill-same, fill-more, getD-fill-out}
 use Rattle.base.proofs.Integers.{size-add}
 use Rattle.base.proofs.RangeLaws.{back}
 use Rattle.lines.specs.Sums.{sumBelow, sizesBelow, tapAt, sumAt, changed, lineLifted}
-use Rattle.lines.proofs.SumLaws.{tap-size, sum-one, sizes-two}
+use Rattle.lines.proofs.SumsLaws.{tap-size, sum-one, sizes-two}
 use Rattle.lifting32.specs.Liftable.{NewNumbersFit, ReadsFrom, Liftable, oneSum, LiftableByOne, liftedByOne, LiftableByPairs, liftedByPairs}
 use Rattle.lifting32.specs.Pairs.{pairTap, pairOrMiddle, pairIndex, pairAt, pairSum, FourPairsFit}
 use Rattle.lifting32.specs.declared.LineStep.{LineStep}

@@ -12,7 +12,7 @@ use lib.ListN.{length, getD}
 use borrow.Author.Tests.{lt-ltb, le-ltb}
 use Rattle.base.proofs.Integers.{size-add}
 use Rattle.lines.specs.Sums.{sumBelow, sizesBelow}
-use Rattle.lines.proofs.SumLaws.{zero-added, pair-size, around, around-none, around-all, pair-added, sizesAround, sizes-around-more, sizes-around-all}
+use Rattle.lines.proofs.SumsLaws.{zero-added, pair-size, around, around-none, around-all, pair-added, sizesAround, sizes-around-more, sizes-around-all}
 use Rattle.lifting32.specs.Pairs.{pairTap, pairOrMiddle, pairIndex, pairAt, pairSum, OnePairFits, FourPairsFit}
 use Rattle.lifting32.specs.declared.PairedLine.{PairedLine}
 
@@ -122,8 +122,7 @@ module _ {plane : List ℤ} {p : PairedLine} {x : ℕ} {t0 t1 t2 t3 : ℤ} {narr
       → OnePairFits narrow sum tap plane (getD (p .indices) j 0 + x) (getD (p .indices) (4 + j) 0 + x)
   beside sum tap j h room =
       record {
-        first-inside = fit .inside j (omega arith);
-        second-inside = fit .inside (4 + j) (omega arith);
+        inside = (fit .inside j (omega arith), fit .inside (4 + j) (omega arith));
         small = fit .small j h;
         product = record { narrowed = λ e. fit .narrowed e j h; room = room };
       }

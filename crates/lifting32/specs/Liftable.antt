@@ -1,5 +1,5 @@
--- Lines of a plane that can be lifted in 32 bits, by taps, by one tap and by pairs of taps, and what becomes of them. These are the code's own forms;
--- no definition of the format rests on them.
+-- The code's own forms: lines of a plane that can be lifted in 32 bits, by taps, by one tap and by pairs of taps, and what becomes of them. No
+-- definition of the format rests on them.
 use mathlib.Core.Path.{_≡_}
 use mathlib.Core.Logic.{_≢_}
 use mathlib.Core.Bool.{Bool, true}

@@ -1,4 +1,4 @@
--- Pairs of equal taps: what they read, their sums, and the sizes that keep these within 32 bits. These are the code's own forms; no definition of the
+-- The code's own forms: pairs of equal taps, what they read, their sums, and the sizes that keep these within 32 bits. No definition of the
 -- format rests on them.
 use mathlib.Core.Path.{_≡_}
 use mathlib.Core.Bool.{Bool, true, cond}
@@ -40,8 +40,7 @@ pub record ProductFits (narrow : Bool) (sum tap v : ℤ) : Type 0 where
 
 -- So it is of what a pair reads, which is within 32 bits too, inside the plane.
 pub record OnePairFits (narrow : Bool) (sum tap : ℤ) (plane : List ℤ) (a b : ℕ) : Type 0 where
-  pub first-inside : a < length plane
-  pub second-inside : b < length plane
+  pub inside : (a < length plane) × (b < length plane)
   pub small : natAbs (pairOf plane a b) < 2 ^ 31
   pub product : ProductFits narrow sum tap (pairOf plane a b)
 

@@ -1,3 +1,3 @@
--- The laws that the proofs of this crate cite.
-pub mod SumLaws
-pub mod BufferLaws
+-- The laws that the proofs of this crate and of those above it cite.
+pub mod SumsLaws
+pub mod BuffersLaws

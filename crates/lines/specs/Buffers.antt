@@ -1,5 +1,5 @@
--- The line buffer: the low half of a row from entry 4 on and the high half from entry 2060 on, each with room for 4 entries on either side. And
--- the sizes of numbers that keep sums within 64 bits. These are the code's own forms; no definition of the format rests on them.
+-- The code's own forms: the line buffer, the low half of a row from entry 4 on and the high half from entry 2060 on, each with room for 4 entries
+-- on either side; and the sizes of numbers that keep sums within 64 bits. No definition of the format rests on them.
 use mathlib.Core.Path.{_≡_}
 use mathlib.Core.Logic.{_≢_}
 use Prim.Native.Nat.{ℕ, _+_, _-_, _*_, _/_, _%_, _≤_, _<_, min}

@@ -1,5 +1,5 @@
--- The sums of a line, round + taps[0] · source[starts[0] + x] + taps[1] · source[starts[1] + x] + .. for each entry x, and what lifting by
--- them makes of the line. These are the code's own forms; no definition of the format rests on them.
+-- The code's own forms: the sums of a line, round + taps[0] · source[starts[0] + x] + taps[1] · source[starts[1] + x] + .. for each entry x,
+-- and what lifting by them makes of the line. No definition of the format rests on them.
 use Prim.Native.Nat.{ℕ, zero, suc, _+_, _^_, _≤_, _<_}
 use mathlib.Core.Bool.{Bool, cond}
 use mathlib.Core.List.{List}

@@ -1,2 +1,2 @@
-pub mod WindowLaws
+pub mod WindowsLaws
 pub mod LookupsLaws

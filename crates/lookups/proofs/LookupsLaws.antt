@@ -16,7 +16,8 @@ use Rattle.base.proofs.EveryLaws.{all-at}
 use Rattle.base.proofs.Booleans.{and-left, and-right}
 use Rattle.exp_golomb.specs.Bits.{bitAt, present, takeBit}
 use Rattle.exp_golomb.specs.Codes.{codeFrom, unsigned, signed}
-use Rattle.lookups.specs.Lookups.{bitsFrom, Ahead, Describes, KnowsCodes, lookupOf}
+use Rattle.lookups.specs.Windows.{bitsFrom, Ahead}
+use Rattle.lookups.specs.Lookups.{Describes, KnowsCodes, lookupOf}
 use Rattle.exp_golomb.specs.declared.bits.Bit.the-variants.{Taken}
 use Rattle.exp_golomb.specs.declared.codes.Number.{Number}
 use Rattle.exp_golomb.specs.declared.codes.Number.the-variants.{Read, Missing, TooLong}
@@ -24,7 +25,7 @@ use Rattle.lookups.specs.declared.Lookup.{Lookup}
 use Rattle.exp_golomb.proofs.BitsLaws.{take-present, unstated-taken}
 use Rattle.exp_golomb.proofs.CodesLaws.{code-ends, sign-none}
 use Rattle.exp_golomb.proofs.Moved.{signed-moved}
-use Rattle.lookups.proofs.WindowLaws.{bits-within, one-bit, ahead-present, ahead-first}
+use Rattle.lookups.proofs.WindowsLaws.{bits-within, one-bit, ahead-present, ahead-first}
 
 -- whether a number is one that was read: 2 · size, and one more below 0
 unfoldable pub isRead : Number → ℕ → ℕ → Bool

@@ -1,2 +1,3 @@
--- The code's own forms.
+-- The code's own forms
+pub mod Windows
 pub mod Lookups

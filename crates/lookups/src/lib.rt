@@ -4,7 +4,8 @@ ghost use mathlib.Core.Logic.{_≢_};
 ghost use Prim.Native.Nat.{_+_, _-_, _*_, _/_, _^_, _≤_, _<_};
 ghost use lib.Dec.{eqb};
 ghost use lib.ListN.{length};
-ghost use Rattle.lookups.specs.Lookups.{bitsFrom, isWindow, windowOf, KnowsCodes, Describes};
+ghost use Rattle.lookups.specs.Windows.{bitsFrom, isWindow, windowOf};
+ghost use Rattle.lookups.specs.Lookups.{KnowsCodes, Describes};
 
 // What eight bits tell: so many zeros, with or without one more value, and the bits of all of them. The value is twice its
 // size, and one more where it is below 0. No bits stand for a code that does not end in the eight.

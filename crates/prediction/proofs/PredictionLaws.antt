@@ -9,7 +9,7 @@ use Prim.Native.Nat.{ℕ, zero, suc, _+_, _-_, _*_, _^_, _≤_, _<_}
 use native.Mathlib.Nat.{suc-mul}
 use native.Mathlib.Omega.{arith}
 use lib.IntN.{ℤ, pos, natAbs, _+ℤ_}
-use lib.ListN.{length, getD, set, length-set}
+use lib.ListN.{getD, set}
 use lib.Seq.{getD-set-other}
 use lib.Signed.{mag}
 use Rattle.base.specs.Floor.{floorDiv}
@@ -144,7 +144,7 @@ module _ (P : List ℤ → Type 0) (stride : ℕ) where
       (λ y low. walk-holds (λ s. P (s .plane)) (predictedValue stride y) 0 width (λ x inner. value-holds y x (kept y x (omega arith) (omega arith))))
       (ended true plane) holds
 
--- an index outside the band, and the length
+-- an index outside the band
 module _ (stride width height : ℕ) (plane : List ℤ) where
   pub prediction-keeps :
       (j : ℕ) → ((y x : ℕ) → y < height → x < width → y * stride + x ≢ j) → getD (prediction stride width height plane .plane) j (pos 0) ≡ getD plane j (pos 0)
@@ -152,7 +152,3 @@ module _ (stride width height : ℕ) (plane : List ℤ) where
       prediction-holds (λ l. getD l j (pos 0) ≡ getD plane j (pos 0)) stride width height
       (λ y x low inner l v same. getD-set-other l (y * stride + x) j v (pos 0) (λ e. outside y x low inner (sym e)) ∙ same)
       plane refl
-
-  pub prediction-length : length (prediction stride width height plane .plane) ≡ length plane
-  prediction-length =
-      prediction-holds (λ l. length l ≡ length plane) stride width height (λ y x low inner l v same. length-set l (y * stride + x) v ∙ same) plane refl

@@ -15,12 +15,12 @@ use Rattle.component.specs.declared.parameters.Parameters.{Parameters}
 use Rattle.component.specs.declared.parameters.Answer.{Answer}
 use Rattle.component.specs.declared.parameters.Job.the-variants.{Decode}
 use Rattle.component.proofs.ChecksLaws.{passed, height-most, samples-fewer, within-sizes, within-depth, within-area}
-use Rattle.transform.proofs.Jobs.{FittedPlanes, fitted}
 use Rattle.decode.specs.Job.{DecodeResult, outcome, decoded}
 use Rattle.decode.proofs.JobLaws.{accepted-checked}
 use Rattle.contents.specs.Table.{entryAt, body}
 use Rattle.contents.specs.declared.table.Entry.{Entry}
 use Rattle.recording.specs.Output.{fitsProgram, planeLength, sampleLength, entryDecoded, entryLines, resultLines, entryText, joined}
+use Rattle.transform.proofs.JobLaws.{Fitted, planes-fitted}
 
 module _ (p : Parameters) where
   -- an entry that fits the program has a padded area of at most 16,384
@@ -46,9 +46,9 @@ module _ (p : Parameters) where
 
 module _ (p : Parameters) (bytes : List ℕ) (coefficients work samples : List ℤ) where
   -- an accepted entry's planes have the lengths that it needs
-  fits : decoded p bytes coefficients work samples .status ≡ 0 → FittedPlanes p (lengthsOf coefficients work samples)
+  fits : decoded p bytes coefficients work samples .status ≡ 0 → Fitted p (lengthsOf coefficients work samples)
   unfolding planesFit
-  fits fine = fitted p _ (passed Decode p _ (accepted-checked p bytes coefficients work samples fine) .planes-pass)
+  fits fine = planes-fitted p _ (passed Decode p _ (accepted-checked p bytes coefficients work samples fine) .planes-pass)
 
   -- and its samples have room in the text
   pub samples-fit :

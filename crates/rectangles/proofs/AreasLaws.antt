@@ -14,7 +14,7 @@ use Rattle.coefficients.specs.Reading.{Run, value, rectangleValues}
 use Rattle.coefficients.specs.Values.{entry, entries}
 use Rattle.coefficients.specs.declared.reading.Rectangle.{Rectangle}
 use Rattle.coefficients.proofs.ReadingLaws.{Stays}
-use Rattle.coefficients.proofs.ValuesLaws.{entries-stay, entries-keep, entries-length}
+use Rattle.coefficients.proofs.ValuesLaws.{entries-stay, entries-keep}
 use Rattle.rectangles.specs.Areas.{sizeOf, valueIndex, areaValues, Inside}
 
 -- row and column of value i, in a raster whose rows are `stride` apart
@@ -95,15 +95,10 @@ module _ (bytes : List ℕ) (end origin : ℕ) (scale : ℕ → ℕ) (a : Rectan
   unfolding areaValues
   area-stays i = entries-stay bytes end origin scale (valueIndex a) i (sizeOf a - i)
 
-  -- a rectangle changes no entry but its own, and no length
+  -- a rectangle changes no entry but its own
   pub rectangle-keeps : (j : ℕ) → ((i : ℕ) → i < sizeOf a → valueIndex a i ≢ j) → (r : Run) →
       getD (rectangleValues bytes end origin scale a r .plane) j (pos 0) ≡ getD (r .plane) j (pos 0)
   unfolding areaValues
   rectangle-keeps j apart r =
       ap (λ (t : Run). getD (t .plane) j (pos 0)) (area-whole r)
       ∙ entries-keep bytes end origin scale (valueIndex a) 0 (sizeOf a - 0) j (λ k some below. apart k (omega arith)) r
-
-  pub rectangle-length : (r : Run) → length (rectangleValues bytes end origin scale a r .plane) ≡ length (r .plane)
-  unfolding areaValues
-  rectangle-length r =
-      ap (λ (t : Run). length (t .plane)) (area-whole r) ∙ entries-length bytes end origin scale (valueIndex a) 0 (sizeOf a - 0) r

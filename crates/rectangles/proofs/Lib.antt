@@ -1,4 +1,4 @@
 -- The laws of rectangles, for this crate and those above it.
 pub mod AreasLaws
-pub mod LayoutLaws
-pub mod RunLaws
+pub mod LayoutsLaws
+pub mod PortionsLaws

@@ -1,2 +1,4 @@
 -- The code's own forms
 pub mod Areas
+pub mod Layouts
+pub mod Portions

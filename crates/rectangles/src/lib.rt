@@ -1,8 +1,11 @@
 // Document 01, "One subband": the values of a rectangle of a plane, in raster order.
 ghost use Prim.Native.Nat.{_≤_, _<_, _^_};
-ghost use Rattle.coefficients.specs.Values.{Decoding, Sound};
+ghost use Rattle.coefficients.specs.Values.{Decoding};
+ghost use Rattle.coefficients.specs.Portions.{Sound};
 ghost use Rattle.coefficients.specs.Scaling.{scaleOf};
-ghost use Rattle.rectangles.specs.Areas.{sizeOf, valueIndex, Inside, ClearFrom, Covers, ReadsOn};
+ghost use Rattle.rectangles.specs.Areas.{sizeOf, valueIndex, Inside, ClearFrom};
+ghost use Rattle.rectangles.specs.Layouts.{Covers};
+ghost use Rattle.rectangles.specs.Portions.{ReadsOn};
 use coefficients::quantiser::Quantiser;
 use coefficients::reading::Cursor;
 use coefficients::reading::Portion;
@@ -57,8 +60,8 @@ pub fn read_values(
     }
 }
 
-// Where the values from value i on go that are read in one run: all that are left where there is one row or rows are short, else those of the row.
-// A value stands after as many gaps as there are rows before its own; in one row that is a number, in more it takes a multiplication.
+// Where the values from value i on go that are read in one run: all that are left where rows are short or there is but one, else those of
+// the row. A value stands after as many gaps as there are rows before its own; in one row that is a number, in more it takes a multiplication.
 fn layout_of(area: Rectangle, i: usize) -> Layout
     requires { ⌜ (area .width ≤ area .stride) × (area .stride ≤ 4096) × (area .height ≤ 4096) × (i < sizeOf area) × (valueIndex area i < 2 ^ 64) ⌝ }
     ensures { λ r. ⌜ Covers area i r ⌝ }

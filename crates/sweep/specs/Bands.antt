@@ -1,5 +1,5 @@
--- The bands of a level put around the picture of the level below, pair of rows by pair of rows. These are the code's own forms; no definition of the
--- format rests on them.
+-- The code's own forms: the bands of a level put around the picture of the level below, pair of rows by pair of rows. No definition of the format
+-- rests on them.
 use Prim.Native.Nat.{ℕ, _+_, _*_, _/_, _%_}
 use mathlib.Core.Bool.{cond}
 use mathlib.Core.List.{List}

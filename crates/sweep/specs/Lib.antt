@@ -1,3 +1,7 @@
 -- The code's own forms
 pub mod Bands
-pub mod Sweep
+pub mod Stages
+pub mod Turns
+pub mod Rows
+pub mod LastStage
+pub mod Levels

@@ -2,7 +2,7 @@
 ghost use mathlib.Core.Path.{_≡_};
 ghost use Prim.Native.Nat.{_+_, _-_, _≤_, max};
 ghost use Rattle.filters.specs.Table.{WellFormedStep, WellFormed};
-ghost use Rattle.sweep.specs.Sweep.{Spaced};
+ghost use Rattle.sweep.specs.Stages.{Spaced};
 use filters::filter::LiftingFilter;
 use filters::filter::LiftingStep;
 

@@ -7,7 +7,9 @@ ghost use Rattle.lifting.specs.Layout.{FrameFits, AgreeOn, framePicture};
 ghost use Rattle.filters.specs.Planes.{pictureOf};
 ghost use Rattle.filters.specs.Table.{WellFormed};
 ghost use Rattle.filters.specs.Pictures.{Agree};
-ghost use Rattle.sweep.specs.Sweep.{Spaced, rowsLag, rowsFitDue, withRowsDue, withSamplesDue, RoomFor, levelFits, levelMade, levelLeft};
+ghost use Rattle.sweep.specs.Stages.{Spaced};
+ghost use Rattle.sweep.specs.LastStage.{rowsLag, rowsFitDue, withRowsDue, withSamplesDue};
+ghost use Rattle.sweep.specs.Levels.{RoomFor, levelFits, levelMade, levelLeft};
 use crate::bands::interleave_due;
 use crate::rows::Crop;
 use crate::rows::filter_pair;
@@ -38,7 +40,9 @@ pub fn sweep_level(
     level: Level,
     filter: LiftingFilter,
 ) -> bool
-    requires { ⌜ FrameFits (level .frame) (now work) × WellFormed filter × Spaced filter (level .gap) × (level .gap ≤ 4) × RoomFor level (now samples) ⌝ }
+    requires { ⌜
+        FrameFits (level .frame) (now work) × WellFormed filter × Spaced filter (level .gap) × (level .gap ≤ 4) × RoomFor level (now samples)
+        ⌝ }
     requires { ⌜
         (2 * level .frame .«band_columns» ≤ «padded_width») × (2 * level .frame .«band_rows» * «padded_width» ≤ length (now coefficients))
         ⌝ }

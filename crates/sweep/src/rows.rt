@@ -7,7 +7,7 @@ ghost use lib.ListN.{length};
 ghost use Rattle.base.specs.Fill.{fill};
 ghost use Rattle.lifting.specs.Layout.{FrameFits};
 ghost use Rattle.filters.specs.Table.{WellFormed};
-ghost use Rattle.sweep.specs.Sweep.{rowMade, rowFits, pairFits, withPair, withRow, withRows};
+ghost use Rattle.sweep.specs.Rows.{rowMade, rowFits, pairFits, withPair, withRow, withRows};
 use filters::filter::LiftingFilter;
 use lifting::frame::Frame;
 use lifting::rows::KeptRow;
@@ -95,7 +95,9 @@ fn finish_row_of(
     requires { ⌜ FrameFits frame (now work) × WellFormed filter × (row < 2 * frame .«band_rows») ⌝ }
     requires { ⌜ (crop .width ≤ 2 * frame .«band_columns») × (crop .height * crop .width ≤ length (now samples)) ⌝ }
     ensures told { λ r. ⌜ r ≡ rowFits frame filter (now (work .entry)) row ⌝ }
-    ensures done { λ r. ⌜ (r ≡ true → now (samples .exit) ≡ withRow crop row (rowMade frame filter (now (work .entry)) row) (now (samples .entry))) ⌝ }
+    ensures done { λ r. ⌜
+        (r ≡ true → now (samples .exit) ≡ withRow crop row (rowMade frame filter (now (work .entry)) row) (now (samples .entry)))
+        ⌝ }
     ensures cleared { λ r. ⌜
         (r ≡ true → now (work .exit) ≡ fill (now (work .entry)) (row * frame .stride) (2 * frame .«band_columns») (λ x. pos 0))
         ⌝ }

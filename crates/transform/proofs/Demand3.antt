@@ -16,7 +16,7 @@ use Rattle.component.specs.declared.parameters.Parameters.{Parameters}
 use Rattle.filters.specs.Planes.{pictureOf, raster}
 use Rattle.transform.specs.Job.{pictureFrom, accepted, transformed, synthesised, analysed, analysisStaysIn32}
 use Rattle.component.specs.Sizes.{paddedWidth, paddedHeight}
-use Rattle.transform.proofs.Jobs.{plane-back, samples-back, coefficients-in-range, no-bad-level, no-refusal}
+use Rattle.transform.proofs.JobLaws.{plane-back, samples-back, coefficients-in-range, no-bad-level, no-refusal}
 
 -- padded planes with the same coefficients are the same plane
 pub injective :

@@ -21,7 +21,7 @@ use Rattle.filters.specs.Planes.{pictureOf}
 use Rattle.lifting.specs.declared.frame.Frame.{Frame}
 use Rattle.transform.specs.Geometry.{Geometry, extentOf}
 use Rattle.transform.specs.declared.levels.Extent.{Extent}
-use Rattle.transform.proofs.Rasters.{all-zeros}
+use Rattle.filters.proofs.PlanesLaws.{all-zeros}
 
 -- a size shifted up by at most 4 loses nothing
 pub size-shifted : (size k : ℕ) → size ≤ 4096 → k ≤ 4 → (size * 2 ^ k) % 2 ^ 64 ≡ size * 2 ^ k

@@ -1,11 +1,7 @@
-pub mod WholeCase
-pub mod Undone
-pub mod LevelLaws
-pub mod Rasters
-pub mod Jobs
-pub mod Demand3
-pub mod BandLaws
-pub mod SweptLevel
-pub mod LevelSteps
+-- The laws of synthesis and analysis, and the theorems about them.
+pub mod SynthesisLaws
+pub mod AnalysisLaws
 pub mod GeometryLaws
-pub mod Recursion
+pub mod JobLaws
+pub mod Demand3
+pub mod WholeCase

@@ -18,10 +18,8 @@ plane l r c = getD l (r * 2 + c) (pos 0)
 corner : Picture → List ℤ
 corner P = P 0 0 ∷ P 0 1 ∷ P 1 0 ∷ P 1 1 ∷ []
 
-whole : corner (synthesis (filterOf 3) 1 1 (plane (pos 10 ∷ pos 4 ∷ negsuc 1 ∷ pos 1 ∷ [])) 1) ≡ pos 9 ∷ pos 12 ∷ pos 7 ∷ pos 11 ∷ []
-unfolding corner plane changesEven adds clamp readPosition tapSum rounding update changes lift deslauriersDubuc97 leGall53 deslauriersDubuc137 haarWithShift fidelity daubechies97 haar haarSteps filterOf run runAll synthesisPasses interleave sizeAt synthesis
-whole = refl
-
-back : corner (analysis (filterOf 3) 1 1 1 (plane (pos 9 ∷ pos 12 ∷ pos 7 ∷ pos 11 ∷ []))) ≡ pos 10 ∷ pos 4 ∷ negsuc 1 ∷ pos 1 ∷ []
-unfolding corner plane changesEven adds clamp readPosition tapSum rounding update changes lift deslauriersDubuc97 leGall53 deslauriersDubuc137 haarWithShift fidelity daubechies97 haar haarSteps filterOf run runAll synthesisPasses interleave sizeAt analysis undoSteps analysisPasses lowBand separate levelAnalysis exchange exchangeType
-back = refl
+whole :
+    (corner (synthesis (filterOf 3) 1 1 (plane (pos 10 ∷ pos 4 ∷ negsuc 1 ∷ pos 1 ∷ [])) 1) ≡ pos 9 ∷ pos 12 ∷ pos 7 ∷ pos 11 ∷ [])
+    × (corner (analysis (filterOf 3) 1 1 1 (plane (pos 9 ∷ pos 12 ∷ pos 7 ∷ pos 11 ∷ []))) ≡ pos 10 ∷ pos 4 ∷ negsuc 1 ∷ pos 1 ∷ [])
+unfolding corner plane changesEven adds clamp readPosition tapSum rounding update changes lift deslauriersDubuc97 leGall53 deslauriersDubuc137 haarWithShift fidelity daubechies97 haar haarSteps filterOf run runAll synthesisPasses interleave sizeAt synthesis analysis undoSteps analysisPasses lowBand separate levelAnalysis exchange exchangeType
+whole = (refl, refl)

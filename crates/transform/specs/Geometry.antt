@@ -1,4 +1,4 @@
--- How the levels of a component share the work plane. These are the code's own forms; no definition of the format rests on them.
+-- The code's own forms: how the levels of a component share the work plane. No definition of the format rests on them.
 use Prim.Native.Nat.{ℕ, suc, _-_, _*_, _^_, _≤_, _<_}
 use mathlib.Core.Path.{_≡_}
 use mathlib.Core.Bool.{Bool}

@@ -18,7 +18,7 @@ use Rattle.exp_golomb.proofs.BitsLaws.{taken, takes}
 use Rattle.exp_golomb.proofs.CodesLaws.{code-missing, code-ends, code-too-long, code-cut, code-goes-on, value-grows}
 use Rattle.exp_golomb.proofs.Extent.{CodeEnd, unsigned-end, unsigned-same}
 use Rattle.exp_golomb.proofs.Followed.{number-followed}
-use Rattle.unpack.specs.Subband.{boundary, refusedAt, onRead, headerAt}
+use Rattle.unpack.specs.Header.{boundary, refusedAt, onRead, headerAt}
 use Rattle.unpack.specs.Bounds.{SoundHeader}
 use Rattle.unpack.specs.declared.header.Header.{Header}
 use Rattle.unpack.specs.declared.header.Header.the-variants.{Skipped, Coded, Refused}

@@ -4,4 +4,4 @@ pub mod SubbandLaws
 pub mod JobLaws
 pub mod Within
 pub mod Trailing
-pub mod FrameLaws
+pub mod Frame

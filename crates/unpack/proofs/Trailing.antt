@@ -19,7 +19,8 @@ use Rattle.coefficients.specs.declared.reading.Progress.{Progress}
 use Rattle.coefficients.specs.declared.reading.Progress.the-variants.{At, Refused}
 use Rattle.codeblocks.specs.declared.CodeblockGrid.{CodeblockGrid}
 use Rattle.prediction.specs.Prediction.{prediction}
-use Rattle.unpack.specs.Subband.{headerAt, goesOnAt, subbandData, checkedData, headed, predictedBand, isPredicted, codeblocksOf, subbandFrom, subband}
+use Rattle.unpack.specs.Header.{headerAt}
+use Rattle.unpack.specs.Subband.{goesOnAt, subbandData, checkedData, headed, predictedBand, isPredicted, codeblocksOf, subbandFrom, subband}
 use Rattle.unpack.specs.Job.{UnpackResult, endedWith, subbandsFrom, unpacked}
 use Rattle.unpack.specs.declared.header.Header.{Header}
 use Rattle.unpack.specs.declared.header.Header.the-variants.{Skipped, Coded, Refused as RefusedHeader}

@@ -1,7 +1,7 @@
 // Document 01, "One subband": the header, which is the length and the quantiser index.
 ghost use mathlib.Core.Path.{_≡_};
 ghost use Prim.Native.Nat.{_<_, _^_};
-ghost use Rattle.unpack.specs.Subband.{boundary, refusedAt, headerAt};
+ghost use Rattle.unpack.specs.Header.{boundary, refusedAt, headerAt};
 use exp_golomb::codes::Number;
 use exp_golomb::codes::next_bit;
 use exp_golomb::codes::read_unsigned;

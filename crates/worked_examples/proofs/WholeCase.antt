@@ -16,7 +16,8 @@ use Rattle.coefficients.specs.Quantiser.{factorOf, quantFactor, quantOffset, sc
 use Rattle.coefficients.specs.Reading.{going, onNumber, store, value, rectangleValues}
 use Rattle.codeblocks.specs.Codeblocks.{codeblockArea, onFlag, codeblockValues, codeblock, codeblocks}
 use Rattle.prediction.specs.Prediction.{meanOf, predictor, storePredicted, predictedValue, predictedRow, prediction}
-use Rattle.unpack.specs.Subband.{boundary, onRead, headerAt, goesOnAt, subbandData, checkedData, headed, predictedBand, isPredicted, codeblocksOf, subbandFrom, subband}
+use Rattle.unpack.specs.Header.{boundary, onRead, headerAt}
+use Rattle.unpack.specs.Subband.{goesOnAt, subbandData, checkedData, headed, predictedBand, isPredicted, codeblocksOf, subbandFrom, subband}
 use Rattle.unpack.specs.Job.{endedWith, subbandsFrom, unpacked}
 use Rattle.filters.specs.Filters.{deslauriersDubuc97, leGall53, deslauriersDubuc137, haarSteps, haar, haarWithShift, fidelity, daubechies97, filterOf}
 use Rattle.filters.specs.Lifting.{changesEven, adds, clamp, readPosition, tapSum, rounding, update, changes, lift}

@@ -12,12 +12,12 @@ use lib.ListN.{length}
 use Rattle.coefficients.specs.Scaling.{scaleOf}
 use Rattle.coefficients.specs.declared.reading.Progress.the-variants.{At}
 use Rattle.rectangles.specs.Areas.{sizeOf}
-use Rattle.coefficients.proofs.PortionLaws.{Follows, sound-again}
+use Rattle.coefficients.proofs.PortionsLaws.{Follows, sound-again}
 use Rattle.codeblocks.specs.Blocks.{countOf, blockBefore, areaBefore}
 use Rattle.codeblocks.specs.declared.PlacedCodeblock.{PlacedCodeblock}
 use Rattle.codeblocks.proofs.BlocksLaws.{few-blocks, placed-same, area-before-inside, block-before-next, block-small}
 use Rattle.codeblocks.proofs.RestLaws.{atValue}
-use Rattle.codeblocks.proofs.TurnLaws.{Sofar, sofar-first, sofar-values, sofar-flag, ends-refused, ends-short, ends-over}
+use Rattle.codeblocks.proofs.PortionsLaws.{Sofar, sofar-first, sofar-values, sofar-flag, ends-refused, ends-short, ends-over}
 use Rattle.codeblocks.proofs.read_codeblocks.Statement.{statement}
 use Rattle.codeblocks.proofs.read_codeblocks.Tie as tie
 

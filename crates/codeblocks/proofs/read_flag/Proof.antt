@@ -2,7 +2,7 @@
 -- Assumes nothing.
 use mathlib.Core.Path.{sym, _∙_}
 use borrow.Author.Needs.{needs}
-use Rattle.codeblocks.proofs.FlagLaws.{flag-single, flag-absent, flag-taken}
+use Rattle.codeblocks.proofs.FlagsLaws.{flag-single, flag-absent, flag-taken}
 use Rattle.codeblocks.proofs.read_flag.Statement.{statement}
 use Rattle.codeblocks.proofs.read_flag.Tie as tie
 

@@ -9,7 +9,7 @@ use lib.ListN.{getD}
 use mir.Syntax.{w32, w64}
 use mir.Val.{toZ, ofZ}
 use Rattle.base.proofs.RangeLaws.{back}
-use Rattle.lines.proofs.SumLaws.{size-fits32}
+use Rattle.lines.proofs.SumsLaws.{size-fits32}
 use Rattle.lifting32.specs.Pairs.{pairTap}
 use Rattle.lifting32.proofs.LiftableLaws.{by-one, lifted-one, by-pairs, lifted-pairs}
 use Rattle.lifting32.proofs.lift_small.Statement.{statement}

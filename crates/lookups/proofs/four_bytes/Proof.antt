@@ -2,7 +2,7 @@
 -- Assumes nothing.
 use native.Mathlib.Omega.{arith}
 use borrow.Author.Needs.{needs}
-use Rattle.lookups.proofs.WindowLaws.{four-bits}
+use Rattle.lookups.proofs.WindowsLaws.{four-bits}
 use Rattle.lookups.proofs.four_bytes.Statement.{statement}
 use Rattle.lookups.proofs.four_bytes.Tie as tie
 

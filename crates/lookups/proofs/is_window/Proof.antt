@@ -4,7 +4,7 @@ use mathlib.Core.Path.{sym, _∙_}
 use native.Mathlib.Omega.{arith}
 use borrow.Author.Needs.{needs}
 use borrow.Author.Tests.{lt-leb}
-use Rattle.lookups.proofs.WindowLaws.{window-first, window-past}
+use Rattle.lookups.proofs.WindowsLaws.{window-first, window-past}
 use Rattle.lookups.proofs.is_window.Statement.{statement}
 use Rattle.lookups.proofs.is_window.Tie as tie
 

@@ -1,7 +1,7 @@
 -- `lookups::window` meets its contract: eight bytes are 64 bits, and the shift drops those before the first.
 -- Assumes nothing.
 use borrow.Author.Needs.{needs}
-use Rattle.lookups.proofs.WindowLaws.{window-whole}
+use Rattle.lookups.proofs.WindowsLaws.{window-whole}
 use Rattle.lookups.proofs.window.Statement.{statement}
 use Rattle.lookups.proofs.window.Tie as tie
 

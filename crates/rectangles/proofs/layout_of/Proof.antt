@@ -7,7 +7,7 @@ use native.Mathlib.Omega.{arith}
 use borrow.Author.Needs.{needs}
 use Rattle.rectangles.specs.Areas.{sizeOf, valueIndex}
 use Rattle.rectangles.proofs.AreasLaws.{InArea, in-area, raster-index}
-use Rattle.rectangles.proofs.LayoutLaws.{covers-all, covers-row, covers-only}
+use Rattle.rectangles.proofs.LayoutsLaws.{covers-all, covers-row, covers-only}
 use Rattle.rectangles.proofs.layout_of.Statement.{statement}
 use Rattle.rectangles.proofs.layout_of.Tie as tie
 

@@ -5,12 +5,13 @@ use Prim.Native.Nat.{_+_, _-_}
 use native.Mathlib.Omega.{arith}
 use borrow.Author.Needs.{needs}
 use Rattle.coefficients.specs.Scaling.{scaleOf}
-use Rattle.coefficients.specs.Values.{indexOf, Reads}
+use Rattle.coefficients.specs.Values.{indexOf}
+use Rattle.coefficients.specs.Portions.{Reads}
 use Rattle.coefficients.specs.declared.reading.Cursor.{Cursor}
 use Rattle.coefficients.specs.declared.reading.Progress.the-variants.{At}
-use Rattle.coefficients.proofs.PortionLaws.{refused-never}
+use Rattle.coefficients.proofs.PortionsLaws.{refused-never}
 use Rattle.rectangles.proofs.AreasLaws.{inside-small, inside-same, value-index-inside}
-use Rattle.rectangles.proofs.RunLaws.{moved, moved-sound, SoFar, so-far-none, run-ready, so-far-on, reads-over, reads-short}
+use Rattle.rectangles.proofs.PortionsLaws.{moved, moved-sound, SoFar, so-far-none, run-ready, so-far-on, reads-over, reads-short}
 use Rattle.rectangles.proofs.read_values.Statement.{statement}
 use Rattle.rectangles.proofs.read_values.Tie as tie
 

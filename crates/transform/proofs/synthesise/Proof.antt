@@ -10,9 +10,9 @@ use Rattle.component.specs.Checks.{sizesInRange, depthInRange, waveletInRange, 
 use Rattle.component.specs.declared.parameters.Job.the-variants.{Synthesise}
 use Rattle.component.proofs.ChecksLaws.{passed}
 use Rattle.transform.specs.Job.{outcome, unchanged, overflowed, accepted}
-use Rattle.transform.proofs.Jobs.{Fitted, fitted, job-refused, job-overflowed, job-accepted}
 use Rattle.transform.proofs.synthesise.Statement.{statement}
 use Rattle.transform.proofs.synthesise.Tie as tie
+use Rattle.transform.proofs.JobLaws.{Fitted, planes-fitted, job-refused, job-overflowed, job-accepted}
 
 refusal-requires : tie.Need-refusal-requires
 refusal-requires c κs = search needs
@@ -32,13 +32,13 @@ checks c =
     let all = passed Synthesise _ _ (none c) in
     (all .sizes-pass, all .depth-passes, not-false _ (all .wavelet-passes))
 
-planes : (c : tie.Else1) → Fitted (c .before .before .args .p) (lengthsOf (now (c .before .before .args .coefficients)) (now (c .before .before .args .work)) (now (c .before .before .args .samples)))
-planes c = fitted _ _ (passed Synthesise _ _ (none c) .planes-pass)
+lengths-fit : (c : tie.Else1) → Fitted (c .before .before .args .p) (lengthsOf (now (c .before .before .args .coefficients)) (now (c .before .before .args .work)) (now (c .before .before .args .samples)))
+lengths-fit c = planes-fitted _ _ (passed Synthesise _ _ (none c) .planes-pass)
 
 synthesise-picture-requires : tie.Need-synthesise-picture-requires
 synthesise-picture-requires c κs =
     let checked = c .before .before in
-    let fit = planes checked in
+    let fit = lengths-fit checked in
     (checks checked, (fit .coefficients-fit, fit .work-fits, fit .samples-fit))
 
 zero-requires : tie.Need-zero-requires

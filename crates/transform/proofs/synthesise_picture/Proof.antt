@@ -16,9 +16,9 @@ use Rattle.transform.specs.Job.{badLevel, pictureFrom}
 use Rattle.transform.specs.Geometry.{Geometry, extentOf}
 use Rattle.transform.specs.declared.levels.Extent.{Extent}
 use Rattle.transform.proofs.GeometryLaws.{geometry-of}
-use Rattle.transform.proofs.Rasters.{raster-is}
 use Rattle.transform.proofs.synthesise_picture.Statement.{statement}
 use Rattle.transform.proofs.synthesise_picture.Tie as tie
+use Rattle.filters.proofs.PlanesLaws.{raster-is}
 
 extent-of-requires : tie.Need-extent-of-requires
 extent-of-requires c κs = search needs

@@ -13,7 +13,7 @@ use Rattle.unpack.specs.Job.{UnpackResult, outcome, subbandsFrom}
 use Rattle.unpack.specs.Bounds.{ClearBandsFrom}
 use Rattle.unpack.proofs.JobLaws.{subbands-end, subbands-next, subbands-stop}
 use Rattle.unpack.proofs.Within.{subband-bits-most}
-use Rattle.unpack.proofs.FrameLaws.{clear-next}
+use Rattle.unpack.proofs.Frame.{clear-next}
 use Rattle.unpack.proofs.read_subbands.Statement.{statement}
 use Rattle.unpack.proofs.read_subbands.Tie as tie
 

@@ -8,7 +8,7 @@ use Rattle.component.specs.Checks.{refusalOf}
 use Rattle.component.specs.declared.parameters.Job.the-variants.{Unpack}
 use Rattle.unpack.specs.Job.{outcome}
 use Rattle.unpack.proofs.JobLaws.{job-refused, job-read, job-checked, job-fits}
-use Rattle.unpack.proofs.FrameLaws.{zeros-clear}
+use Rattle.unpack.proofs.Frame.{zeros-clear}
 use Rattle.unpack.proofs.unpack.Statement.{statement}
 use Rattle.unpack.proofs.unpack.Tie as tie
 

@@ -3,7 +3,7 @@
 use mathlib.Core.Logic.{⊎-elim}
 use native.Mathlib.Omega.{arith}
 use borrow.Author.Needs.{needs}
-use Rattle.coefficients.proofs.PortionLaws.{not-read-short, not-read-long}
+use Rattle.coefficients.proofs.PortionsLaws.{not-read-short, not-read-long}
 use Rattle.coefficients.proofs.values.not_read.Statement.{statement}
 use Rattle.coefficients.proofs.values.not_read.Tie as tie
 

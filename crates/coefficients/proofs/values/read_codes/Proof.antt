@@ -8,7 +8,7 @@ use borrow.Author.Needs.{needs}
 use denote.Ref.{now}
 use mir.Syntax.{w32}
 use Rattle.base.proofs.RangeLaws.{back}
-use Rattle.coefficients.proofs.AheadLaws.{first-most, Taken, taken-none, taken-code}
+use Rattle.coefficients.proofs.BatchesLaws.{first-most, Taken, taken-none, taken-code}
 use Rattle.coefficients.proofs.values.read_codes.Statement.{statement}
 use Rattle.coefficients.proofs.values.read_codes.Tie as tie
 

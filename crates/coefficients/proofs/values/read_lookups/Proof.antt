@@ -10,7 +10,7 @@ use denote.Ref.{now}
 use mir.Syntax.{w32}
 use Rattle.base.proofs.RangeLaws.{back}
 use Rattle.lookups.proofs.LookupsLaws.{lookup-count}
-use Rattle.coefficients.proofs.AheadLaws.{Taken, taken-none, taken-lookup, taken-zeros}
+use Rattle.coefficients.proofs.BatchesLaws.{Taken, taken-none, taken-lookup, taken-zeros}
 use Rattle.coefficients.proofs.values.read_lookups.Statement.{statement}
 use Rattle.coefficients.proofs.values.read_lookups.Tie as tie
 

@@ -2,7 +2,7 @@
 -- Assumes nothing.
 use native.Mathlib.Omega.{arith}
 use borrow.Author.Needs.{needs}
-use Rattle.coefficients.proofs.AheadLaws.{zeros-at-once}
+use Rattle.coefficients.proofs.BatchesLaws.{zeros-at-once}
 use Rattle.coefficients.proofs.values.read_many.Statement.{statement}
 use Rattle.coefficients.proofs.values.read_many.Tie as tie
 

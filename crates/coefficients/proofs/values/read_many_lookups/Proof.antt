@@ -1,5 +1,5 @@
--- `coefficients::values::read_many_lookups` meets its contract: as `read_lookups`, but each lookup goes at most nine values further, and seven of them
--- do not reach the layout's end.
+-- `coefficients::values::read_many_lookups` meets its contract: as `read_lookups`, but each lookup goes at most nine values further, and
+-- seven of them do not pass the layout's end.
 -- Assumes nothing.
 use Prim.Native.Nat.{_+_, _-_, _*_, _≤_, _<_}
 use native.Mathlib.Omega.{arith}
@@ -10,7 +10,7 @@ use denote.Ref.{now}
 use mir.Syntax.{w32}
 use Rattle.base.proofs.RangeLaws.{back}
 use Rattle.lookups.proofs.LookupsLaws.{lookup-count}
-use Rattle.coefficients.proofs.AheadLaws.{Taken, taken-none, taken-lookup}
+use Rattle.coefficients.proofs.BatchesLaws.{Taken, taken-none, taken-lookup}
 use Rattle.coefficients.proofs.values.read_many_lookups.Statement.{statement}
 use Rattle.coefficients.proofs.values.read_many_lookups.Tie as tie
 

@@ -9,7 +9,7 @@ use lib.ListN.{length}
 use borrow.Author.Needs.{needs}
 use Rattle.coefficients.specs.Scaling.{scaleOf}
 use Rattle.coefficients.specs.Values.{indexOf}
-use Rattle.coefficients.proofs.PortionLaws.{refused-never, true-never, Follows, Sofar, sofar-none, sofar-adds, portion-ends, portion-all, sound-again, ready-again}
+use Rattle.coefficients.proofs.PortionsLaws.{refused-never, true-never, Follows, Sofar, sofar-none, sofar-adds, portion-ends, portion-all, sound-again, ready-again}
 use Rattle.coefficients.proofs.values.read_run.Statement.{statement}
 use Rattle.coefficients.proofs.values.read_run.Tie as tie
 

@@ -4,7 +4,7 @@ use mathlib.Core.Logic.{⊎-elim}
 use native.Mathlib.Omega.{arith}
 use borrow.Author.Needs.{needs}
 use Rattle.coefficients.specs.Values.{indexOf}
-use Rattle.coefficients.proofs.PortionLaws.{number-before, not-read-some, portion-stored, portion-not-read}
+use Rattle.coefficients.proofs.PortionsLaws.{number-before, not-read-some, portion-stored, portion-not-read}
 use Rattle.coefficients.proofs.values.read_value.Statement.{statement}
 use Rattle.coefficients.proofs.values.read_value.Tie as tie
 

@@ -5,11 +5,11 @@ use mathlib.Core.Path.{_≡_}
 use native.Mathlib.Omega.{arith}
 use borrow.Author.Needs.{needs}
 use denote.Ref.{now}
-use Rattle.lookups.specs.Lookups.{Ahead}
-use Rattle.lookups.proofs.WindowLaws.{is-window, window-top, window-ahead}
+use Rattle.lookups.specs.Windows.{Ahead}
+use Rattle.lookups.proofs.WindowsLaws.{is-window, window-top, window-ahead}
 use Rattle.coefficients.specs.Scaling.{scaleOf}
 use Rattle.coefficients.specs.Values.{indexOf}
-use Rattle.coefficients.proofs.PortionLaws.{portion-ahead, none-ahead}
+use Rattle.coefficients.proofs.PortionsLaws.{portion-ahead, none-ahead}
 use Rattle.coefficients.proofs.values.read_window.Statement.{statement}
 use Rattle.coefficients.proofs.values.read_window.Tie as tie
 

@@ -6,7 +6,7 @@ use borrow.Author.Needs.{needs}
 use mir.Syntax.{w64}
 use mir.ValLaws.{toZ-pos}
 use Rattle.filters.specs.Lifting.{rounding}
-use Rattle.filters.proofs.RoundingLaws.{shifted-one, power-small, rounding-power}
+use Rattle.filters.proofs.LiftingLaws.{shifted-one, power-small, rounding-power}
 use Rattle.filters.proofs.filter.rounding_of.Statement.{statement}
 use Rattle.filters.proofs.filter.rounding_of.Tie as tie
 

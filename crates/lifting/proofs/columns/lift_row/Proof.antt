@@ -16,9 +16,10 @@ use borrow.Author.Needs.{needs}
 use lib.ListN.{length, getD}
 use Rattle.base.proofs.Grids.{row-room, rows-apart}
 use Rattle.filters.specs.Pictures.{sourceRow}
-use Rattle.lifting.proofs.LayoutLaws.{target-below, source-below, source-other, lifted-row}
 use Rattle.lifting.proofs.columns.lift_row.Statement.{statement}
 use Rattle.lifting.proofs.columns.lift_row.Tie as tie
+use Rattle.filters.proofs.PicturesLaws.{target-below, source-below, source-other}
+use Rattle.lifting.proofs.LinesLaws.{lifted-row}
 
 mul-width : tie.Need-mul-width
 mul-width c = search needs

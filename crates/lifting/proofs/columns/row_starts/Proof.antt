@@ -7,9 +7,9 @@ use Rattle.base.specs.Fill.{fill}
 use Rattle.base.proofs.FillLaws.{fill-none, fill-more, getD-fill-start}
 use Rattle.filters.specs.Pictures.{sourceRow}
 use Rattle.base.proofs.Grids.{row-room}
-use Rattle.lifting.proofs.LayoutLaws.{source-below}
 use Rattle.lifting.proofs.columns.row_starts.Statement.{statement}
 use Rattle.lifting.proofs.columns.row_starts.Tie as tie
+use Rattle.filters.proofs.PicturesLaws.{source-below}
 
 abbrev Inv-loop : tie.InvT-loop
 Inv-loop even s pairs stride starts₀ t₀ starts t =

@@ -15,9 +15,8 @@ use Rattle.filters.specs.Passes.{rows, run, runAll, allNewFit}
 use Rattle.lifting.specs.LineBounds.{HalvesWithin}
 use Rattle.filters.specs.Table.{stepOf, WellFormedStep, stepsInUse, filterFrom}
 use Rattle.filters.specs.declared.filter.LiftingStep.{LiftingStep}
-use Rattle.filters.proofs.PassLaws.{passes-more, passes-stop}
+use Rattle.filters.proofs.PassesLaws.{passes-more, passes-stop, rows-same}
 use Rattle.filters.proofs.LiftingLaws.{twice-length}
-use Rattle.filters.proofs.RowLaws.{rows-same}
 use Rattle.filters.proofs.TableLaws.{passes-counted, pass-inside, pass-in-use}
 use Rattle.lifting.proofs.rows.filter_halves.Statement.{statement}
 use Rattle.lifting.proofs.rows.filter_halves.Tie as tie

@@ -9,10 +9,9 @@ use lib.ListN.{getD}
 use Rattle.lines.specs.Buffers.{interleaved}
 use Rattle.filters.specs.Table.{filterFrom}
 use Rattle.lifting.specs.Layout.{halfIndex}
-use Rattle.lifting.proofs.HalfLaws.{halves-copied, halves-measured}
-use Rattle.lifting.proofs.PlaneRowLaws.{row-told, row-run}
 use Rattle.lifting.proofs.rows.filter_row_halves.Statement.{statement}
 use Rattle.lifting.proofs.rows.filter_row_halves.Tie as tie
+use Rattle.lifting.proofs.LayoutLaws.{halves-copied, halves-measured, row-told, row-run}
 
 copy-measured-requires : tie.Need-copy-measured-requires
 copy-measured-requires c κs = search needs

@@ -5,9 +5,9 @@ use mathlib.Core.Bool.{false≢true}
 use borrow.Author.Needs.{needs}
 use borrow.Author.Tests.{not-true, not-false}
 use Rattle.filters.specs.Table.{filterFrom}
-use Rattle.lifting.proofs.PlaneRowLaws.{row-interleaved}
 use Rattle.lifting.proofs.rows.finish_row.Statement.{statement}
 use Rattle.lifting.proofs.rows.finish_row.Tie as tie
+use Rattle.lifting.proofs.LayoutLaws.{row-interleaved}
 
 filter-row-halves-requires : tie.Need-filter-row-halves-requires
 filter-row-halves-requires c κs = search needs

@@ -11,9 +11,10 @@ use lib.IntN.{ℤ}
 use lib.ListN.{length}
 use Rattle.lifting.specs.Layout.{baseOf}
 use Rattle.lifting.specs.Lines.{LineInside}
-use Rattle.lifting.proofs.HalfLaws.{HalfRead, base-most, bases-apart, half-reads, half-old, half-lifted, halves-before, halves-done}
 use Rattle.lifting.proofs.rows.lift_halves.Statement.{statement}
 use Rattle.lifting.proofs.rows.lift_halves.Tie as tie
+use Rattle.lifting.proofs.LineBoundsLaws.{HalfRead, half-reads, half-old, half-lifted, halves-before, halves-done}
+use Rattle.lifting.proofs.LayoutLaws.{base-most, bases-apart}
 
 base-of-requires : tie.Need-base-of-requires
 base-of-requires c κs = search needs

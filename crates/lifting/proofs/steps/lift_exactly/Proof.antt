@@ -12,7 +12,7 @@ use Rattle.base.proofs.EveryLaws.{all-same}
 use Rattle.base.proofs.FillLaws.{fill-same}
 use Rattle.lines.specs.Sums.{changed}
 use Rattle.filters.specs.Lifting.{rounding}
-use Rattle.filters.proofs.RoundingLaws.{rounding-most, rounding-back}
+use Rattle.filters.proofs.LiftingLaws.{rounding-most, rounding-back}
 use Rattle.lifting.specs.Lines.{lineNew}
 use Rattle.lifting.proofs.steps.lift_exactly.Statement.{statement}
 use Rattle.lifting.proofs.steps.lift_exactly.Tie as tie

@@ -15,10 +15,10 @@ use Rattle.base.specs.Range.{fits32}
 use Rattle.base.proofs.EveryLaws.{all-from}
 use Rattle.base.proofs.RangeLaws.{back}
 use Rattle.lines.specs.Sums.{sizesBelow, tapAt}
-use Rattle.lines.proofs.SumLaws.{size-fits32}
+use Rattle.lines.proofs.SumsLaws.{size-fits32}
 use Rattle.filters.specs.Lifting.{rounding}
 use Rattle.filters.proofs.BoundsLaws.{products-fit, line-fits}
-use Rattle.filters.proofs.RoundingLaws.{rounding-most, rounding-back}
+use Rattle.filters.proofs.LiftingLaws.{rounding-most, rounding-back}
 use Rattle.lifting.specs.Lines.{lineNew}
 use Rattle.lifting.proofs.steps.lift_in_32_bits.Statement.{statement}
 use Rattle.lifting.proofs.steps.lift_in_32_bits.Tie as tie

@@ -5,7 +5,7 @@ use lib.IntN.{pos}
 use mir.Syntax.{w32}
 use mir.Val.{toZ, ofZ}
 use Rattle.base.proofs.RangeLaws.{back}
-use Rattle.lines.proofs.SumLaws.{zero-added}
+use Rattle.lines.proofs.SumsLaws.{zero-added}
 use Rattle.lifting32.specs.Pairs.{pairOf}
 use Rattle.lifting32.proofs.loops.with_outer_pair.Statement.{statement}
 use Rattle.lifting32.proofs.loops.with_outer_pair.Tie as tie

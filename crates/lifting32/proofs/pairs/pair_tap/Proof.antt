@@ -10,7 +10,7 @@ use lib.ListN.{getD}
 use mir.Syntax.{w32, w64}
 use Rattle.base.proofs.RangeLaws.{back}
 use Rattle.lifting32.specs.Pairs.{pairTap}
-use Rattle.lines.proofs.SumLaws.{size-fits32}
+use Rattle.lines.proofs.SumsLaws.{size-fits32}
 use Rattle.lifting32.proofs.pairs.pair_tap.Statement.{statement}
 use Rattle.lifting32.proofs.pairs.pair_tap.Tie as tie
 

@@ -8,7 +8,7 @@ use lib.ListN.{length, getD, length-set}
 use mir.Syntax.{w32}
 use mir.Val.{toZ}
 use Rattle.base.proofs.RangeLaws.{back}
-use Rattle.lines.proofs.BufferLaws.{ends, ends-none, ends-more, ends-clamped, ends-kept}
+use Rattle.lines.proofs.BuffersLaws.{ends, ends-none, ends-more, ends-clamped, ends-kept}
 use Rattle.lines.proofs.buffers.extend.Statement.{statement}
 use Rattle.lines.proofs.buffers.extend.Tie as tie
 

@@ -7,7 +7,7 @@ use mir.Syntax.{w32}
 use Rattle.base.specs.Floor.{floorDiv}
 use Rattle.base.proofs.RangeLaws.{back}
 use Rattle.lines.specs.Buffers.{shifted}
-use Rattle.lines.proofs.BufferLaws.{half-up, half-small}
+use Rattle.lines.proofs.BuffersLaws.{half-up, half-small}
 use Rattle.lines.proofs.buffers.halved.Statement.{statement}
 use Rattle.lines.proofs.buffers.halved.Tie as tie
 

@@ -12,7 +12,7 @@ use Rattle.base.specs.Fill.{fill}
 use Rattle.base.proofs.RangeLaws.{back}
 use Rattle.base.proofs.FillLaws.{fill-more}
 use Rattle.lines.specs.Buffers.{interleaved, shifted}
-use Rattle.lines.proofs.BufferLaws.{interleaved-even}
+use Rattle.lines.proofs.BuffersLaws.{interleaved-even}
 use Rattle.lines.proofs.buffers.interleave.Statement.{statement}
 use Rattle.lines.proofs.buffers.interleave.Tie as tie
 

@@ -11,7 +11,7 @@ use Rattle.base.specs.Fill.{fill}
 use Rattle.base.proofs.FillLaws.{fill-none}
 use Rattle.base.proofs.RangeLaws.{back}
 use Rattle.lines.specs.Buffers.{interleaved, shifted}
-use Rattle.lines.proofs.BufferLaws.{interleaved-even, interleaved-odd, fill-two}
+use Rattle.lines.proofs.BuffersLaws.{interleaved-even, interleaved-odd, fill-two}
 use Rattle.lines.proofs.buffers.interleave_pairs.Statement.{statement}
 use Rattle.lines.proofs.buffers.interleave_pairs.Tie as tie
 

@@ -24,40 +24,40 @@ same (pos n) e = omega arith
 same (negsuc n) e = let no : _≡_ {A = ℕ} 0 1 = cc in absurd (omega arith)
 
 -- what the test says
-below : (c : tie.Then1) → ltZ (c .before .args .v) (pos 0) ≡ true
-below c = rw (back w32 (c .before .args .v) (c .before .fits .v .sfits)) at (c .if1 .taken)
+negative : (c : tie.Then1) → ltZ (c .before .args .v) (pos 0) ≡ true
+negative c = rw (back w32 (c .before .args .v) (c .before .fits .v .sfits)) at (c .if1 .taken)
 
-above : (c : tie.Else1) → ltZ (c .before .args .v) (pos 0) ≡ false
-above c = rw (back w32 (c .before .args .v) (c .before .fits .v .sfits)) at (c .if1 .left)
+not-negative : (c : tie.Else1) → ltZ (c .before .args .v) (pos 0) ≡ false
+not-negative c = rw (back w32 (c .before .args .v) (c .before .fits .v .sfits)) at (c .if1 .left)
 
 sub-result : tie.Need-sub-result
 sub-result c =
     let v = c .before .args .v in
     let small = c .before .fits .v .sfits in
-    rw (back w32 v small, mirror-below v (below c)) (record { sfits = small })
+    rw (back w32 v small, mirror-below v (negative c)) (record { sfits = small })
 
 cast-result : tie.Need-cast-result
 cast-result c =
     let v = c .before .args .v in
     let small = c .before .fits .v .sfits in
-    rw (back w32 v small, mirror-below v (below c), back w32 (pos (mag v)) small) (tt, record { fits = omega (arith, small) })
+    rw (back w32 v small, mirror-below v (negative c), back w32 (pos (mag v)) small) (tt, record { fits = omega (arith, small) })
 
 cast-result-2 : tie.Need-cast-result-2
 cast-result-2 c =
     let v = c .before .args .v in
     let small = c .before .fits .v .sfits in
-    rw (back w32 v small) (plain v (above c) small)
+    rw (back w32 v small) (plain v (not-negative c) small)
 
 returns : tie.Need-returns
 returns c =
     let v = c .before .args .v in
     let small = c .before .fits .v .sfits in
-    rw (back w32 v small, mirror-below v (below c), back w32 (pos (mag v)) small) (omega arith)
+    rw (back w32 v small, mirror-below v (negative c), back w32 (pos (mag v)) small) (omega arith)
 
 returns-2 : tie.Need-returns-2
 returns-2 c =
     let v = c .before .args .v in
-    rw (back w32 v (c .before .fits .v .sfits)) (same v (above c))
+    rw (back w32 v (c .before .fits .v .sfits)) (same v (not-negative c))
 
 pub magnitude-spec : {M : Type 1} → statement M
 magnitude-spec = tie.close (tie.spec sub-result cast-result cast-result-2 returns returns-2)

@@ -11,7 +11,7 @@ use mir.Val.{toZ, ofZ}
 use Rattle.base.specs.Fill.{fill}
 use Rattle.base.proofs.FillLaws.{fill-none, fill-more, getD-fill-out}
 use Rattle.base.proofs.RangeLaws.{back}
-use Rattle.lines.proofs.SumLaws.{product-small, product-fits, sum-fits, below-added}
+use Rattle.lines.proofs.SumsLaws.{product-small, product-fits, sum-fits, below-added}
 use Rattle.lines.proofs.sums.add_tap.Statement.{statement}
 use Rattle.lines.proofs.sums.add_tap.Tie as tie
 

@@ -8,7 +8,7 @@ use mir.Val.{toZ, ofZ}
 use Rattle.base.specs.Floor.{floorDiv}
 use Rattle.base.proofs.RangeLaws.{back}
 use Rattle.lines.specs.Sums.{changed}
-use Rattle.lines.proofs.SumLaws.{added-small, subtracted-small}
+use Rattle.lines.proofs.SumsLaws.{added-small, subtracted-small}
 use Rattle.lines.proofs.sums.lifted.Statement.{statement}
 use Rattle.lines.proofs.sums.lifted.Tie as tie
 

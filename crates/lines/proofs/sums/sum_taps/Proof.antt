@@ -11,7 +11,7 @@ use Rattle.base.proofs.FillLaws.{length-fill, getD-fill-start}
 use Rattle.base.proofs.RangeLaws.{back}
 use Rattle.lines.specs.Buffers.{Below}
 use Rattle.lines.specs.Sums.{sumBelow, tapAt}
-use Rattle.lines.proofs.SumLaws.{sum-none, sum-more}
+use Rattle.lines.proofs.SumsLaws.{sum-none, sum-more}
 use Rattle.lines.proofs.sums.sum_taps.Statement.{statement}
 use Rattle.lines.proofs.sums.sum_taps.Tie as tie
 

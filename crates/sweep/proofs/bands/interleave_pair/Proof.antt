@@ -6,9 +6,9 @@ use native.Mathlib.Omega.{arith}
 use borrow.Author.Needs.{needs}
 use lib.ListN.{length}
 use Rattle.base.proofs.Grids.{row-end}
-use Rattle.sweep.proofs.BandLaws.{pair-within}
 use Rattle.sweep.proofs.bands.interleave_pair.Statement.{statement}
 use Rattle.sweep.proofs.bands.interleave_pair.Tie as tie
+use Rattle.sweep.proofs.BandsLaws.{pair-within}
 
 -- the rows that are stored to, and those that are read, lie within their planes
 module _ (s : tie.Start) where

@@ -5,9 +5,9 @@ use Prim.Native.Nat.{ℕ, _+_, _-_, _≤_, _<_}
 use native.Mathlib.Decide.{decLt}
 use native.Mathlib.Omega.{arith}
 use borrow.Author.Needs.{needs}
-use Rattle.sweep.specs.Sweep.{stepAt}
 use Rattle.sweep.proofs.gaps.gap_of.Statement.{statement}
 use Rattle.sweep.proofs.gaps.gap_of.Tie as tie
+use Rattle.sweep.specs.Stages.{stepAt}
 
 abbrev Inv-loop : tie.InvT-loop
 Inv-loop filter gap₀ i₀ gap i =

@@ -6,9 +6,9 @@ use native.Mathlib.Nat.{mul-le-mul}
 use native.Mathlib.Omega.{arith}
 use borrow.Author.Needs.{needs}
 use borrow.Author.Tests.{le-leb, lt-leb}
-use Rattle.sweep.specs.Sweep.{rowsLag}
 use Rattle.sweep.proofs.level.filter_due.Statement.{statement}
 use Rattle.sweep.proofs.level.filter_due.Tie as tie
+use Rattle.sweep.specs.LastStage.{rowsLag}
 
 add-lag : tie.Need-add-lag
 add-lag c = search needs

@@ -14,13 +14,16 @@ use lib.IntN.{ℤ}
 use lib.ListN.{length}
 use Rattle.lifting.specs.Layout.{FrameFits}
 use Rattle.filters.specs.Passes.{Picture}
-use Rattle.lifting.proofs.LayoutLaws.{frame-fits-same}
 use Rattle.sweep.specs.Bands.{PairWithin, withBandsDue}
-use Rattle.sweep.specs.Sweep.{Swept, Bounded, turnsIn, turnFits, rowsLag, rowsFitDue, RoomFor}
-use Rattle.sweep.proofs.LevelSweep.{stages, rowsTest, Progress, pair-due, progress-none, turn-bounded, turn-swept, turn-rows, progress-more, columns-fail, rows-fail, level-fits, level-left, level-finished}
-use Rattle.sweep.proofs.StageLaws.{stages-made}
 use Rattle.sweep.proofs.level.sweep_level.Statement.{statement}
 use Rattle.sweep.proofs.level.sweep_level.Tie as tie
+use Rattle.lifting.proofs.LayoutLaws.{frame-fits-same}
+use Rattle.sweep.specs.Stages.{Swept, turnsIn}
+use Rattle.sweep.specs.Turns.{Bounded, turnFits}
+use Rattle.sweep.specs.LastStage.{rowsLag, rowsFitDue}
+use Rattle.sweep.specs.Levels.{RoomFor}
+use Rattle.sweep.proofs.LevelsLaws.{levelPictures, rowsTest, Progress, pair-due, progress-none, turn-bounded, turn-swept, turn-rows, progress-more, columns-fail, rows-fail, level-fits, level-left, level-finished}
+use Rattle.sweep.proofs.StagesLaws.{stages-made}
 
 abbrev Inv-loop : tie.InvT-loop
 Inv-loop work₀ samples₀ coefficients padded-width halves₀ level filter turns most₀ pair₀ turn₀ work samples halves most pair turn =
@@ -103,7 +106,7 @@ module _ (c : tie.After-join Inv-loop μ-loop) where
       (head .loop .most) (head .loop .turn) (head .loop .work) (head .loop .samples) placed-now now (head .loop .inv .4)
       (c .before .before .interleave-due .result) (c .join .result) (c .join .ensures) banded banded-due measured
 
-  swept-banded : Swept (start .args .level .frame) (start .args .level .gap) (turnsIn (start .args .level .frame) (start .args .filter) (head .loop .turn) 1) (stages (start .args .level) (start .args .filter) (start .args .padded-width) (start .args .work .now) (start .args .coefficients .now)) banded
+  swept-banded : Swept (start .args .level .frame) (start .args .level .gap) (turnsIn (start .args .level .frame) (start .args .filter) (head .loop .turn) 1) (levelPictures (start .args .level) (start .args .filter) (start .args .padded-width) (start .args .work .now) (start .args .coefficients .now)) banded
   swept-banded =
       turn-swept (start .args .level) (start .args .filter) (start .args .padded-width) (start .args .work .now) (start .args .coefficients .now) (start .pre .0 .1)
       (head .loop .most) (head .loop .turn) (head .loop .work) (head .loop .samples) placed-now now (head .loop .inv .4)
@@ -130,7 +133,7 @@ module _ (c : tie.After-lift-turn Inv-loop μ-loop) where
   placed-lifted = frame-fits-same _ _ _ (start joined .pre .0 .0) long-lifted
 
   abbrev pictures : ℕ → Picture
-  pictures = stages (start joined .args .level) (start joined .args .filter) (start joined .args .padded-width) (start joined .args .work .now) (start joined .args .coefficients .now)
+  pictures = levelPictures (start joined .args .level) (start joined .args .filter) (start joined .args .padded-width) (start joined .args .work .now) (start joined .args .coefficients .now)
 
   steps-told :
       (c .lift-turn .result ≡ turnFits (start joined .args .level .frame) (start joined .args .filter) (start joined .args .level .gap) (head joined .loop .turn) pictures)
@@ -165,36 +168,36 @@ filter-due-requires c κs =
 
 -- Once the rows of the last stage's pair are filtered.
 module _ (c : tie.After-filter-due Inv-loop μ-loop) where
-  abbrev stepped : tie.After-lift-turn Inv-loop μ-loop
-  stepped = c .before .before .before .before .before .before
+  abbrev lifted-turn : tie.After-lift-turn Inv-loop μ-loop
+  lifted-turn = c .before .before .before .before .before .before
 
-  abbrev went : stepped .lift-turn .result ≡ true
+  abbrev went : lifted-turn .lift-turn .result ≡ true
   went = not-false _ (c .before .before .before .before .if1 .left)
 
   rows-same :
-      rowsFitDue (start (joined stepped) .args .level) (start (joined stepped) .args .filter) (head (joined stepped) .loop .turn) (lifted stepped)
-      ≡ rowsTest (start (joined stepped) .args .level) (start (joined stepped) .args .filter) (start (joined stepped) .args .padded-width) (start (joined stepped) .args .work .now) (start (joined stepped) .args .coefficients .now) (head (joined stepped) .loop .turn)
+      rowsFitDue (start (joined lifted-turn) .args .level) (start (joined lifted-turn) .args .filter) (head (joined lifted-turn) .loop .turn) (lifted lifted-turn)
+      ≡ rowsTest (start (joined lifted-turn) .args .level) (start (joined lifted-turn) .args .filter) (start (joined lifted-turn) .args .padded-width) (start (joined lifted-turn) .args .work .now) (start (joined lifted-turn) .args .coefficients .now) (head (joined lifted-turn) .loop .turn)
   rows-same =
-      let first = start (joined stepped) in
-      let loop = head (joined stepped) .loop in
+      let first = start (joined lifted-turn) in
+      let loop = head (joined lifted-turn) .loop in
       turn-rows (first .args .level) (first .args .filter) (first .args .padded-width) (first .args .work .now) (first .args .coefficients .now) (first .pre .0 .1)
-      (loop .most) (loop .turn) (loop .work) (loop .samples) (placed-now (joined stepped)) (now (joined stepped)) (loop .inv .4)
-      (joined stepped .join .result) (lifted stepped) (placed-lifted stepped) (steps-told stepped .1 went)
+      (loop .most) (loop .turn) (loop .work) (loop .samples) (placed-now (joined lifted-turn)) (now (joined lifted-turn)) (loop .inv .4)
+      (joined lifted-turn .join .result) (lifted lifted-turn) (placed-lifted lifted-turn) (steps-told lifted-turn .1 went)
 
 same-length-3 : tie.Need-same-length-3 Inv-loop μ-loop
 same-length-3 c =
     let after = c .before .before .before in
-    after .filter-due .kept .0 ∙ long-lifted (stepped after)
+    after .filter-due .kept .0 ∙ long-lifted (lifted-turn after)
 
 same-length-4 : tie.Need-same-length-4 Inv-loop μ-loop
 same-length-4 c =
     let after = c .before .before .before in
-    after .filter-due .kept .1 .0 ∙ head (joined (stepped after)) .loop .inv .3
+    after .filter-due .kept .1 .0 ∙ head (joined (lifted-turn after)) .loop .inv .3
 
 returns-2 : tie.Need-returns-2 Inv-loop μ-loop
 returns-2 c =
     let after = c .before .before .before in
-    let before = joined (stepped after) in
+    let before = joined (lifted-turn after) in
     let first = start before in (
       rows-fail (first .args .level) (first .args .filter) (first .args .padded-width) (first .args .work .now) (first .args .coefficients .now) (first .pre .0 .1)
           (head before .loop .turn) (now before) (sym (rows-same after) ∙ sym (after .filter-due .ensures .0) ∙ not-true _ (c .if2 .taken)),
@@ -214,18 +217,18 @@ pair-next pairs turn pair next counted more same =
 
 add-turn : tie.Need-add-turn Inv-loop μ-loop
 add-turn c =
-    let before = joined (stepped (c .before .before .before .before)) in
+    let before = joined (lifted-turn (c .before .before .before .before)) in
     omega (arith, now before, small (start before), start before .pre .0 .0 .rows-most)
 
 loop-less : tie.Need-loop-less Inv-loop μ-loop
 loop-less c =
-    let before = joined (stepped (c .before .before .before .before)) in
+    let before = joined (lifted-turn (c .before .before .before .before)) in
     omega (arith, now before, head before .loop .inv .1)
 
 loop-again : tie.Need-loop-again Inv-loop μ-loop
 loop-again c =
     let after = c .before .before .before .before in
-    let steps = stepped after in
+    let steps = lifted-turn after in
     let before = joined steps in
     let first = start before in
     let loop = head before .loop in

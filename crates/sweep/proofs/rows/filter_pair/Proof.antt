@@ -4,10 +4,10 @@ use mathlib.Core.Path.{sym, _∙_}
 use mathlib.Core.Bool.{false≢true}
 use borrow.Author.Needs.{needs}
 use borrow.Author.Tests.{not-true, not-false}
-use Rattle.sweep.specs.Sweep.{rowMade}
-use Rattle.sweep.proofs.RowsLaws.{pair-fails, pair-told, pair-stored, second-row}
 use Rattle.sweep.proofs.rows.filter_pair.Statement.{statement}
 use Rattle.sweep.proofs.rows.filter_pair.Tie as tie
+use Rattle.sweep.specs.Rows.{rowMade}
+use Rattle.sweep.proofs.RowsLaws.{pair-fails, pair-told, pair-stored, second-row}
 
 mul-filter-row-of : tie.Need-mul-filter-row-of
 mul-filter-row-of c = search needs

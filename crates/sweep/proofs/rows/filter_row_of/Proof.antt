@@ -3,9 +3,9 @@
 use mathlib.Core.Path.{refl}
 use native.Mathlib.Omega.{arith}
 use borrow.Author.Needs.{needs}
-use Rattle.lifting.proofs.LayoutLaws.{row-inside}
 use Rattle.sweep.proofs.rows.filter_row_of.Statement.{statement}
 use Rattle.sweep.proofs.rows.filter_row_of.Tie as tie
+use Rattle.lifting.proofs.LayoutLaws.{row-inside}
 
 mul-filter-row : tie.Need-mul-filter-row
 mul-filter-row c =

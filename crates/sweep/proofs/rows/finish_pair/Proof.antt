@@ -7,10 +7,10 @@ use native.Mathlib.Omega.{arith}
 use borrow.Author.Needs.{needs}
 use borrow.Author.Tests.{not-true, not-false}
 use lib.IntN.{pos}
-use Rattle.lifting.proofs.LayoutLaws.{frame-fits-same}
-use Rattle.sweep.proofs.RowsLaws.{pair-fails, pair-told, pair-stored, second-row, withRow-same}
 use Rattle.sweep.proofs.rows.finish_pair.Statement.{statement}
 use Rattle.sweep.proofs.rows.finish_pair.Tie as tie
+use Rattle.lifting.proofs.LayoutLaws.{frame-fits-same}
+use Rattle.sweep.proofs.RowsLaws.{pair-fails, pair-told, pair-stored, second-row, withRow-same}
 
 mul-finish-row-of : tie.Need-mul-finish-row-of
 mul-finish-row-of c = search needs

@@ -5,11 +5,10 @@ use Prim.Native.Nat.{_+_, _*_, _≤_}
 use native.Mathlib.Omega.{arith}
 use borrow.Author.Needs.{needs}
 use lib.ListN.{length}
-use Rattle.lifting.proofs.LayoutLaws.{row-inside}
-use Rattle.lifting.proofs.PlaneRowLaws.{crop-room}
-use Rattle.sweep.proofs.RowsLaws.{cropped}
 use Rattle.sweep.proofs.rows.finish_row_of.Statement.{statement}
 use Rattle.sweep.proofs.rows.finish_row_of.Tie as tie
+use Rattle.lifting.proofs.LayoutLaws.{row-inside, crop-room}
+use Rattle.sweep.proofs.RowsLaws.{cropped}
 
 kept-columns-requires : tie.Need-kept-columns-requires
 kept-columns-requires c κs = search needs

@@ -13,12 +13,13 @@ use Rattle.base.proofs.EveryLaws.{all-none, all-more, all-not}
 use Rattle.base.proofs.Booleans.{and-true}
 use Rattle.filters.specs.Passes.{Picture}
 use Rattle.filters.specs.Table.{WellFormedStep}
-use Rattle.lifting.proofs.LayoutLaws.{frame-fits-same}
 use Rattle.filters.proofs.BoundsLaws.{bounds-most}
-use Rattle.sweep.specs.Sweep.{Stages, Swept, Bounded, boundsBy, turnsIn, stepFits, stepAt}
-use Rattle.sweep.proofs.TurnLaws.{stepped, row-within, step-told, swept-more, bounded-more}
 use Rattle.sweep.proofs.turns.lift_turn.Statement.{statement}
 use Rattle.sweep.proofs.turns.lift_turn.Tie as tie
+use Rattle.lifting.proofs.LayoutLaws.{frame-fits-same}
+use Rattle.sweep.specs.Stages.{Stages, Swept, turnsIn, stepAt}
+use Rattle.sweep.specs.Turns.{Bounded, boundsBy, stepFits}
+use Rattle.sweep.proofs.TurnsLaws.{step-done, row-within, step-told, swept-more, bounded-more}
 
 abbrev Inv-loop : tie.InvT-loop
 Inv-loop work₀ frame gap turn most filter size reach₀ i₀ work bounds i =
@@ -53,8 +54,8 @@ add-lift-due : tie.Need-add-lift-due Inv-loop μ-loop
 add-lift-due c = omega arith
 
 -- step i is well-formed, and its lag is small
-sane : (c : tie.In-loop Inv-loop μ-loop) → WellFormedStep (stepAt (c .before .before .args .t3) (c .before .loop .i))
-sane c = c .before .before .pre .0 .1 .each (c .before .loop .i) _ (c .loop-test .taken)
+formed : (c : tie.In-loop Inv-loop μ-loop) → WellFormedStep (stepAt (c .before .before .args .t3) (c .before .loop .i))
+formed c = c .before .before .pre .0 .1 .each (c .before .loop .i) _ (c .loop-test .taken)
 
 mul-lift-due : tie.Need-mul-lift-due Inv-loop μ-loop
 mul-lift-due c =
@@ -69,7 +70,7 @@ lift-due-requires c κs =
     let head = turn .before in
     let start = head .before in
     let placed = frame-fits-same _ _ _ (start .pre .0 .0) (head .loop .inv .1) in (
-      (placed, sane turn, head .loop .inv .3, head .loop .inv .4),
+      (placed, formed turn, head .loop .inv .3, head .loop .inv .4),
       λ late inside. rw (head .loop .inv .2)
           (row-within (start .args .frame) (start .args .t3) (start .args .gap) (start .args .turn) (head .loop .i) (turn .loop-test .taken) (start .pre .0 .2) (head .loop .work) placed
           (start .args .turn - (head .loop .i + 1) * start .args .gap) inside (omega arith) _ (head .loop .inv .5)),
@@ -98,7 +99,7 @@ returns c =
 bounds-after-requires : tie.Need-bounds-after-requires Inv-loop μ-loop
 bounds-after-requires c κs =
     let turn = c .before .before .before .before .before in
-    (sane turn, turn .before .loop .inv .3, turn .before .loop .inv .4)
+    (formed turn, turn .before .loop .inv .3, turn .before .loop .inv .4)
 
 add-i : tie.Need-add-i Inv-loop μ-loop
 add-i c = omega arith
@@ -117,7 +118,7 @@ loop-again c =
     let below = turn .loop-test .taken in
     let placed = frame-fits-same _ _ _ (start .pre .0 .0) (head .loop .inv .1) in
     let yes = not-false (after .lift-due .result) (c .before .if1 .left) in
-    let moved = stepped (start .args .frame) (stepAt (start .args .t3) i) _ (start .args .turn) (head .loop .work) placed _ (after .lift-due .ensures .1 yes) in
+    let moved = step-done (start .args .frame) (stepAt (start .args .t3) i) _ (start .args .turn) (head .loop .work) placed _ (after .lift-due .ensures .1 yes) in
     let most = bounds-most (stepAt (start .args .t3) i) (head .loop .bounds) (head .loop .inv .3) (head .loop .inv .4) in
     rw (add-one i) (
       omega arith,
@@ -125,7 +126,7 @@ loop-again c =
       c .bounds-after .ensures ∙ rw (head .loop .inv .2) refl,
       rw (c .bounds-after .ensures) (most .0),
       rw (c .bounds-after .ensures) (most .1),
-      bounded-more (start .args .frame) (start .args .t3) (start .args .gap) (start .args .turn) i below (start .pre .0 .2) (head .loop .work) placed _ moved _ (sane turn)
+      bounded-more (start .args .frame) (start .args .t3) (start .args .gap) (start .args .turn) i below (start .pre .0 .2) (head .loop .work) placed _ moved _ (formed turn)
           (sym (after .lift-due .ensures .0) ∙ yes) (head .loop .inv .5),
       λ stages made all.
           let swept = head .loop .inv .6 stages made all in (

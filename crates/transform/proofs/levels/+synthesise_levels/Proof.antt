@@ -17,7 +17,6 @@ use Rattle.filters.specs.Passes.{Picture}
 use Rattle.filters.specs.Table.{filterFrom}
 use Rattle.transform.specs.Geometry.{Geometry, Stands, coefficientPicture, workPicture, pictureAt, firstBadAt, levelInput, levelPicture, levelNumbersFit}
 use Rattle.transform.specs.Synthesis.{synthesis, levelFits, firstBadLevel}
-use Rattle.transform.proofs.Recursion.{bad-below, bad-none, bad-here, level-fits, level-picture}
 use Rattle.transform.proofs.levels.synthesise_levels.Reads as levels
 use Rattle.transform.proofs.levels.synthesise_levels.Kinds as levels-kinds
 use Rattle.transform.proofs.levels.+synthesise_levels.Lts-synthesise_levels as levels-lts
@@ -25,6 +24,7 @@ use Rattle.transform.proofs.levels.put_low_band.Reads as put-low-band-r
 use Rattle.transform.proofs.levels.synthesise_level.Reads as synthesise-level-reads
 use Rattle.transform.proofs.levels.+synthesise_levels.{statement}
 use Rattle.transform.proofs.levels.+synthesise_levels.Tie.{close}
+use Rattle.transform.proofs.SynthesisLaws.{bad-below, bad-none, bad-here, level-fits, level-picture}
 
 abbrev μ-levels : Measures 4 levels-kinds.ps ℕ
 μ-levels κs a = a .1 .1 .1 .1 .1 .1 .0

@@ -19,9 +19,9 @@ use Rattle.filters.specs.Pictures.{Agree}
 use Rattle.transform.specs.Geometry.{coefficientPicture}
 use Rattle.transform.specs.Synthesis.{synthesisPasses, interleave}
 use Rattle.transform.proofs.GeometryLaws.{placed, next-columns, rows-whole, by-sizes, cleared-all, low-rows-most, low-columns-most}
-use Rattle.transform.proofs.SweptLevel.{swept-told, swept-made}
 use Rattle.transform.proofs.levels.synthesise_level.Statement.{statement}
 use Rattle.transform.proofs.levels.synthesise_level.Tie as tie
+use Rattle.transform.proofs.SynthesisLaws.{swept-told, swept-made}
 
 next-frame-requires : tie.Need-next-frame-requires
 next-frame-requires c κs =

@@ -2,7 +2,7 @@
 -- Assumes nothing.
 use mathlib.Core.Path.{refl}
 use borrow.Author.Needs.{needs}
-use Rattle.unpack.specs.Subband.{boundary}
+use Rattle.unpack.specs.Header.{boundary}
 use Rattle.unpack.proofs.header.boundary.Statement.{statement}
 use Rattle.unpack.proofs.header.boundary.Tie as tie
 
