@@ -1,4 +1,4 @@
--- Document 01, "rounding down": division of a whole number by a natural number, toward minus infinity.
+-- Document 01, "Lifting": "rounding down", division of a whole number by a natural number, toward minus infinity.
 use Prim.Native.Nat.{ℕ}
 use lib.IntN.{ℤ}
 use lib.Signed.{shrZ}

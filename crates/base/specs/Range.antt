@@ -1,4 +1,4 @@
--- Document 01, "signed 32 bits": the range of the numbers in a plane.
+-- Document 01, "Refusal numbers": signed 32 bits, the range of the numbers in a plane.
 use Prim.Native.Nat.{_^_}
 use mathlib.Core.Bool.{Bool}
 use lib.Dec.{ltb}

@@ -1,4 +1,4 @@
--- A whole number from its size and its sign.
+-- Document 01, "Number codes": a whole number from its size and its sign.
 use Prim.Native.Nat.{ℕ}
 use mathlib.Core.Bool.{Bool, cond}
 use lib.IntN.{ℤ, pos, negℤ}

@@ -69,7 +69,7 @@ analysed p plane =
     raster (paddedHeight p) (paddedWidth p)
     (analysis (filterOf (p .wavelet)) (lowHeight p) (lowWidth p) (p .depth) (pictureOf (paddedWidth p) plane))
 
--- "a padded plane and every number that analysis assigns on the way fit signed 32 bits"
+-- Demand 3 (docs/PROMISES.md): "a padded plane and every number that analysis assigns on the way fit signed 32 bits"
 unfoldable pub analysisStaysIn32 : Parameters → List ℤ → Bool
 analysisStaysIn32 p plane =
     allBelow (length plane) (λ i. fits32 (getD plane i (pos 0)))

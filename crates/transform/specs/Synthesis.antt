@@ -27,7 +27,8 @@ module _ (f : Filter) (h w : ℕ) (coefficients : Picture) where
       runAll (sizeAt h (suc n)) (sizeAt w (suc n)) (synthesisPasses f)
       (interleave (sizeAt h n) (sizeAt w n) (synthesis n) coefficients)
 
-  -- Whether each number that level n + 1 assigns fits signed 32 bits.
+  -- "Refusal 10 looks at each element's new number after each lifting step and after the shift; sums inside a step may be larger." Whether each
+  -- number that level n + 1 assigns fits signed 32 bits.
   unfoldable pub levelFits : ℕ → Bool
   levelFits n =
       allNewFit (sizeAt h (suc n)) (sizeAt w (suc n)) (synthesisPasses f)

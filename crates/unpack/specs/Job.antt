@@ -26,7 +26,8 @@ pub record UnpackResult : Type 0 where
 unfoldable pub outcome : Answer → List ℤ → UnpackResult
 outcome answer coefficients = record { status = answer .status; place = answer .place; coefficients = coefficients }
 
--- After subband k: accepted so far, or refused with the subband as its place, "Subbands count from 0 in stream order": "Zeros are written to each plane the call may write."
+-- After subband k: accepted so far; or refused, with the subband as its place ("Subbands count from 0 in stream order") and zeros: "Zeros are
+-- written to each plane the call may write."
 unfoldable pub endedWith : ℕ → Progress → List ℤ → (ℕ → List ℤ → UnpackResult) → UnpackResult
 endedWith k (At bit) plane go = go bit plane
 endedWith k (Refused status bit) plane go = record { status = status; place = k; coefficients = zerosLike plane }
