@@ -8,7 +8,6 @@ use mathlib.Core.List.{List}
 use Prim.Native.Nat.{ℕ, _+_, _-_, _*_, _≤_, _<_, suc, _/_, _%_}
 use native.Mathlib.Decide.{decLt}
 use native.Mathlib.Omega.{arith}
-use native.Mathlib.Nat.{le-trans}
 use lib.Dec.{ltb}
 use lib.IntN.{ℤ, pos, natAbs}
 use lib.ListN.{length, getD}
@@ -21,15 +20,15 @@ use Rattle.lifting.specs.Layout.{FrameFits, framePicture}
 use Rattle.filters.specs.Passes.{Picture, runAll}
 use Rattle.filters.specs.Planes.{pictureOf}
 use Rattle.filters.specs.Bounds.{boundOf}
-use Rattle.filters.specs.Table.{WellFormed}
 use Rattle.lifting.specs.declared.frame.Frame.{Frame}
 use Rattle.filters.specs.declared.filter.LiftingFilter.{LiftingFilter}
 use Rattle.filters.specs.Pictures.{targetRow}
-use Rattle.sweep.specs.Bands.{withBandRow, PairWithin, withBandsDue, bandRows}
-use Rattle.sweep.specs.Stages.{Swept, lastOf, turnsIn}
+use Rattle.sweep.specs.Bands.{withBandRow, PairWithin, bandRows}
+use Rattle.sweep.specs.Pairs.{FramePut}
+use Rattle.sweep.specs.Stages.{lagOf, cameTo, Swept, lastOf, reachIn}
 use Rattle.sweep.specs.Turns.{Bounded, boundsBy}
-use Rattle.sweep.proofs.TurnsLaws.{bounds-grow}
-use Rattle.sweep.proofs.StagesLaws.{stagesOf, stage-came, stage-after, staged-more, turns-not, turns-first, lag-came, lag-first}
+use Rattle.sweep.proofs.TurnsLaws.{stage-swept, stage-bounded}
+use Rattle.sweep.proofs.StagesLaws.{Due, due-from, stagesOf, stage-came, stage-after, reach-not, reach-first, lag-came, lag-first}
 use Rattle.filters.proofs.PicturesLaws.{even-target, odd-target, other-even, other-odd}
 
 module _ (coefficients : List ℤ) (pw rows columns stride : ℕ) (apart : 2 * columns ≤ stride) where
@@ -105,95 +104,111 @@ module _ (coefficients : List ℤ) (pw rows columns stride : ℕ) (apart : 2 * c
     pub others-kept : (row x : ℕ) → x < 2 * columns → row ≢ 2 * k → row ≢ 2 * k + 1 → getD second (row * stride + x) (pos 0) ≡ getD work (row * stride + x) (pos 0)
     others-kept row x h even odd = odd-kept row x odd (omega arith) ∙ even-kept row x even (omega arith)
 
--- The first stage: the bands of the turn's pair are interleaved.
-module _ (f : Frame) (filter : LiftingFilter) (formed : WellFormed filter) (gap turn padded : ℕ) (work₀ coefficients plane : List ℤ) (Z : Picture) (placed : FrameFits f plane) where
+-- The interleaved rows of a pair.
+module _ (f : Frame) (padded : ℕ) (source coefficients : List ℤ) (k x : ℕ) where
+  band-even :
+      bandRows f padded source coefficients (targetRow true k) x
+      ≡ cond (ltb x (f .«band_columns»)) (framePicture f source (targetRow true k) x) (pictureOf padded coefficients k x)
+  unfolding bandRows
+  band-even =
+      let parity : 2 * k % 2 ≡ 0 = omega arith in
+      let half : 2 * k / 2 ≡ k = omega arith in
+      rw (even-target k, eq-eqb (2 * k % 2) 0 parity, half)
+
+  band-odd : bandRows f padded source coefficients (targetRow false k) x ≡ pictureOf padded coefficients (f .«band_rows» + k) x
+  unfolding bandRows
+  band-odd =
+      let half : (2 * k + 1) / 2 ≡ k = omega arith in
+      rw (odd-target k, ne-eqb ((2 * k + 1) % 2) 0 (λ e. omega arith), half)
+
+-- they are the same of planes that have the same even row
+bands-same :
+    (f : Frame) (padded : ℕ) (A B coefficients : List ℤ) (k x : ℕ) → framePicture f A (targetRow true k) x ≡ framePicture f B (targetRow true k) x
+    → (even : Bool) → bandRows f padded A coefficients (targetRow even k) x ≡ bandRows f padded B coefficients (targetRow even k) x
+bands-same f padded A B coefficients k x same true =
+    band-even f padded A coefficients k x ∙ rw same (sym (band-even f padded B coefficients k x))
+bands-same f padded A B coefficients k x same false = band-odd f padded A coefficients k x ∙ sym (band-odd f padded B coefficients k x)
+
+-- Pair k of a plane, once the bands of some pairs before it are interleaved.
+module _
+    (f : Frame) (padded : ℕ) (plane coefficients : List ℤ) (from k : ℕ) (inside : k < f .«band_rows») (work : List ℤ) (placed : FrameFits f work)
+    (put : FramePut f from k (bandRows f padded plane coefficients) plane work) (work' : List ℤ) (stored : work' ≡ withBandRow f padded k work coefficients)
+  where
+    odd-inside : (2 * k + 1) * f .stride + 2 * f .«band_columns» ≤ length work
+    odd-inside = omega (arith, row-end (2 * k + 1) (2 * f .«band_rows») (f .stride) (2 * f .«band_columns») (omega arith) (placed .apart), placed .inside)
+
+    stored-here : (even : Bool) (x : ℕ) → x < 2 * f .«band_columns» → framePicture f work' (targetRow even k) x ≡ bandRows f padded work coefficients (targetRow even k) x
+    unfolding pictureOf
+    stored-here true x within =
+        let row = even-row coefficients padded (f .«band_rows») (f .«band_columns») (f .stride) (placed .apart) work k odd-inside x within in
+        rw (band-even f padded work coefficients k x, stored, even-target k) row
+    stored-here false x within =
+        let row = odd-row coefficients padded (f .«band_rows») (f .«band_columns») (f .stride) (placed .apart) work k odd-inside x within in
+        rw (band-odd f padded work coefficients k x, stored, odd-target k) row
+
+    pub bands-put : FramePut f k (suc k) (bandRows f padded plane coefficients) work work'
+    unfolding pictureOf
+    bands-put =
+        record {
+          new = λ q even x start end shown within.
+              let here : q ≡ k = omega arith in
+              rw here (stored-here even x within ∙ bands-same f padded work plane coefficients k x (put .kept k true x (λ a b. omega arith) within) even);
+          kept = λ q even x out within.
+              let other : q ≢ k = λ e. out (omega (arith, e)) (omega (arith, e)) in
+              rw stored
+              (others-kept coefficients padded (f .«band_rows») (f .«band_columns») (f .stride) (placed .apart) work k odd-inside (targetRow even q) x within
+              (other-even even q k other) (other-odd even q k other));
+        }
+
+    -- the numbers of the other pairs are as large as they were
+    pub sizes-kept : (q m : ℕ) → q ≢ k → PairWithin f q m work → PairWithin f q m work'
+    unfolding pictureOf
+    sizes-kept q m other all =
+        let same : (even : Bool) (x : ℕ) → x < 2 * f .«band_columns» → framePicture f work' (targetRow even q) x ≡ framePicture f work (targetRow even q) x =
+        λ even x within. bands-put .kept q even x (λ start end. other (omega arith)) within
+        in (
+          λ x within. rw (rw (even-target q) at (same true x within)) (all .0 x within),
+          λ x within. rw (rw (odd-target q) at (same false x within)) (all .1 x within),
+        )
+
+-- The first stage: the bands of the turn's pairs are interleaved.
+module _ (f : Frame) (filter : LiftingFilter) (gap turn padded : ℕ) (work₀ coefficients plane : List ℤ) (Z : Picture) where
   abbrev b : ℕ
   b = f .«band_rows»
-
-  abbrev w : ℕ
-  w = 2 * f .«band_columns»
 
   abbrev pictures : ℕ → Picture
   pictures = stagesOf f filter (framePicture f work₀) (bandRows f padded work₀ coefficients) Z
 
-  -- the odd row of a pair lies in the plane
-  odd-inside : (k : ℕ) → k < b → (2 * k + 1) * f .stride + w ≤ length plane
-  odd-inside k inside = omega (arith, row-end (2 * k + 1) (2 * b) (f .stride) w (omega arith) (placed .apart), placed .inside)
+  -- what they are
+  bands-here :
+      Swept f gap (reachIn f filter turn 0) pictures plane → (k : ℕ) (even : Bool) → k < b → Due b gap (lastOf filter) turn 0 (omega arith) k
+      → (x : ℕ) → x < 2 * f .«band_columns» → bandRows f padded plane coefficients (targetRow even k) x ≡ pictures 1 (targetRow even k) x
+  unfolding runAll
+  bands-here all k even inside due x within =
+      let came = all 0 k true inside (record { come = rw (reach-first b (lastOf filter) turn 0, lag-came gap) (omega arith); next = rw (reach-not b (lastOf filter) turn 0 1 (omega arith) (omega arith) (omega arith)) (due .0) }) x within in
+      rw (stage-after f filter (framePicture f work₀) (bandRows f padded work₀ coefficients) Z 0 (omega arith))
+      (bands-same f padded plane work₀ coefficients k x (rw (stage-came f filter (framePicture f work₀) (bandRows f padded work₀ coefficients) Z) at came) even)
 
-  -- what the interleaved rows are
-  stage-even : (k x : ℕ) → pictures 1 (targetRow true k) x ≡ cond (ltb x (f .«band_columns»)) (framePicture f work₀ (2 * k) x) (pictureOf padded coefficients k x)
-  unfolding bandRows runAll
-  stage-even k x =
-      let parity : 2 * k % 2 ≡ 0 = omega arith in
-      let half : 2 * k / 2 ≡ k = omega arith in
-      rw (stage-after f filter (framePicture f work₀) (bandRows f padded work₀ coefficients) Z 0 (omega arith), even-target k, eq-eqb (2 * k % 2) 0 parity, half)
+  module _ (plane' : List ℤ) (put : FramePut f (cameTo b 0 turn) (cameTo b 0 (turn + 8)) (bandRows f padded plane coefficients) plane plane') where
+    abbrev put-same : FramePut f (cameTo b (lagOf gap 1) turn) (cameTo b (lagOf gap 1) (turn + 8)) (bandRows f padded plane coefficients) plane plane'
+    put-same = rw (lag-first gap) put
 
-  stage-odd : (k x : ℕ) → pictures 1 (targetRow false k) x ≡ pictureOf padded coefficients (b + k) x
-  unfolding bandRows runAll
-  stage-odd k x =
-      let half : (2 * k + 1) / 2 ≡ k = omega arith in
-      rw (stage-after f filter (framePicture f work₀) (bandRows f padded work₀ coefficients) Z 0 (omega arith), odd-target k, ne-eqb ((2 * k + 1) % 2) 0 (λ e. omega arith), half)
-
-  module _ (plane' : List ℤ) (stored : plane' ≡ withBandsDue f padded turn plane coefficients) where
-    -- the plane with the pair's bands
-    put : turn < b → plane' ≡ withBandRow f padded turn plane coefficients
-    put inside = rw (lt-ltb turn b inside) at stored
-
-    -- the other rows are as they were
-    bands-kept : (k : ℕ) (even : Bool) → k ≢ turn → (x : ℕ) → x < w → framePicture f plane' (targetRow even k) x ≡ framePicture f plane (targetRow even k) x
-    unfolding pictureOf
-    bands-kept k even other x within =
-        elim (decLt turn b) [
-          | yes inside ↦
-              rw (put inside)
-              (others-kept coefficients padded b (f .«band_columns») (f .stride) (placed .apart) plane turn (odd-inside turn inside) (targetRow even k) x within
-              (other-even even k turn other) (other-odd even k turn other))
-          | no past ↦ let same : plane' ≡ plane = rw (le-ltb turn b (omega arith)) at stored in rw same
-        ]
-
-    -- the pair's rows
-    bands-new :
-        Swept f gap (turnsIn f filter turn 0) pictures plane → (k : ℕ) (even : Bool) → k < b → k ≡ turn
-        → (x : ℕ) → x < w → framePicture f plane' (targetRow even k) x ≡ pictures 1 (targetRow even k) x
-    unfolding pictureOf
-    bands-new all k true inside here x within =
-        let came = all 0 k true inside (record { come = rw (turns-first b (lastOf filter) turn 0, lag-came gap) (omega arith); next = rw (turns-not b (lastOf filter) turn 0 1 (omega arith) (omega arith) (omega arith), lag-first gap) (omega arith) }) x within in
-        stored-even ∙ rw (rw (even-target k, stage-came f filter (framePicture f work₀) (bandRows f padded work₀ coefficients) Z) at came) (sym (stage-even k x))
-      where
-        stored-even : framePicture f plane' (targetRow true k) x ≡ cond (ltb x (f .«band_columns»)) (framePicture f plane (2 * k) x) (pictureOf padded coefficients k x)
-        stored-even =
-            rw (even-target k, put (rw here at inside), ← here)
-            (even-row coefficients padded b (f .«band_columns») (f .stride) (placed .apart) plane k (odd-inside k inside) x within)
-    bands-new all k false inside here x within =
-        rw (odd-target k, put (rw here at inside), ← here)
-        (odd-row coefficients padded b (f .«band_columns») (f .stride) (placed .apart) plane k (odd-inside k inside) x within)
-        ∙ sym (stage-odd k x)
-
-    pub swept-bands : Swept f gap (turnsIn f filter turn 0) pictures plane → Swept f gap (turnsIn f filter turn 1) pictures plane'
+    pub swept-bands : Swept f gap (reachIn f filter turn 0) pictures plane → Swept f gap (reachIn f filter turn 1) pictures plane'
     swept-bands all =
-        staged-more b gap (lastOf filter) turn 0 (omega arith)
-        (λ stage even q. (x : ℕ) → x < w → framePicture f plane (targetRow even q) x ≡ pictures stage (targetRow even q) x)
-        (λ stage even q. (x : ℕ) → x < w → framePicture f plane' (targetRow even q) x ≡ pictures stage (targetRow even q) x)
-        (λ k even inside here. bands-new all k even inside (omega (arith, lag-first gap)))
-        (λ stage k even inside other old x within. bands-kept k even (λ same. other (omega (arith, lag-first gap))) x within ∙ old x within)
-        all
+        stage-swept f filter gap turn 0 (omega arith) (bandRows f padded plane coefficients) plane plane' put-same pictures (bands-here all) all
 
     pub bounded-bands :
-        (size size' here : ℕ) → size ≤ size' → suc here ≤ size' → (turn < b → PairWithin f turn (suc here) plane')
-        → Bounded f gap (turnsIn f filter turn 0) filter size plane → Bounded f gap (turnsIn f filter turn 1) filter size' plane'
+        (size size' here : ℕ) → size ≤ size' → suc here ≤ size'
+        → ((k : ℕ) → cameTo b 0 turn ≤ k → k < cameTo b 0 (turn + 8) → PairWithin f k (suc here) plane')
+        → Bounded f gap (reachIn f filter turn 0) filter size plane → Bounded f gap (reachIn f filter turn 1) filter size' plane'
     unfolding boundsBy boundOf pictureOf
     bounded-bands size size' here grows most measured all =
-        staged-more b gap (lastOf filter) turn 0 (omega arith)
-        (λ stage even q. (n : ℕ) → stage ≡ suc n → n ≤ filter .count → Within plane (targetRow even q * f .stride) w (boundOf (boundsBy filter size n) even))
-        (λ stage even q. (n : ℕ) → stage ≡ suc n → n ≤ filter .count → Within plane' (targetRow even q * f .stride) w (boundOf (boundsBy filter size' n) even))
-        (λ k even inside at n same few x within.
-        let none : n ≡ 0 = omega arith in
-        let now : k ≡ turn = omega (arith, lag-first gap) in
-        rw none (of-pair k even inside now x within))
-        (λ stage k even inside other old n same few x within.
-        rw (bands-kept k even (λ now. other (omega (arith, lag-first gap))) x within) (le-trans (old n same few x within) (bounds-grow filter size size' grows n even)))
+        stage-bounded f filter gap turn 0 (omega arith) (bandRows f padded plane coefficients) plane plane' put-same size size' grows
+        (λ k even inside due few x within.
+        let at = rw (lag-first gap) at (due-from b gap (lastOf filter) turn 0 (omega arith) k inside due) in
+        of-pair k even (measured k (at .0) (at .1)) x within)
         all
       where
-        of-pair : (k : ℕ) (even : Bool) → k < b → k ≡ turn → (x : ℕ) → x < w → natAbs (getD plane' (targetRow even k * f .stride + x) (pos 0)) ≤ cond even size' size'
-        of-pair k true inside now x within = rw (even-target k, now) (omega (arith, measured (rw now at inside) .0 x within))
-        of-pair k false inside now x within = rw (odd-target k, now) (omega (arith, measured (rw now at inside) .1 x within))
+        of-pair : (k : ℕ) (even : Bool) → PairWithin f k (suc here) plane' → (x : ℕ) → x < 2 * f .«band_columns» → natAbs (framePicture f plane' (targetRow even k) x) ≤ cond even size' size'
+        of-pair k true all x within = rw (even-target k) (omega (arith, all .0 x within))
+        of-pair k false all x within = rw (odd-target k) (omega (arith, all .1 x within))

@@ -1,4 +1,5 @@
 -- The laws of a sweep, for this crate and those above it.
+pub mod PairsLaws
 pub mod StagesLaws
 pub mod TurnsLaws
 pub mod BandsLaws

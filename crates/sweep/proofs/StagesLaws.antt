@@ -1,11 +1,11 @@
--- A sweep brings one pair of rows to each stage at a turn: which pair is at which stage, and what its rows are there. And the pictures of the stages:
+-- A sweep brings eight pairs of rows to each stage at a turn: which pair is at which stage, and what its rows are there. And the pictures of the stages:
 -- what came, the interleaved picture, what the steps make of it, and what is left in the end.
 -- Assumes nothing.
 use mathlib.Core.Path.{_≡_, refl, sym, _∙_, ap}
 use mathlib.Core.Logic.{_≢_}
-use mathlib.Core.Bool.{Bool, true, false, cond}
+use mathlib.Core.Bool.{Bool, true, cond}
 use mathlib.Core.List.{List, [], _∷_, _++_, map}
-use Prim.Native.Nat.{ℕ, zero, suc, _+_, _≤_, _<_, _-_, _*_}
+use Prim.Native.Nat.{ℕ, zero, suc, _+_, _≤_, _<_, _*_}
 use native.Mathlib.Nat.{mul-le-mul-right, zero-mul}
 use native.Mathlib.Decide.{decLt, ℕ-discrete}
 use native.Mathlib.Omega.{arith}
@@ -14,11 +14,10 @@ use lib.Dec.{leb}
 use lib.ListN.{length, getD, take}
 use lib.Seq.{take-suc, take-all}
 use lib.IntN.{ℤ}
-use borrow.Author.Tests.{ne-eqb, le-leb, lt-leb, lt-ltb, ltb-true}
+use borrow.Author.Tests.{ne-eqb, le-leb, lt-leb}
 use Rattle.base.specs.Every.{allBelow}
 use Rattle.base.specs.Range.{fits32}
 use Rattle.base.proofs.EveryLaws.{all-at, all-from}
-use Rattle.base.proofs.Booleans.{and-right}
 use Rattle.lifting.specs.Layout.{runOn, numbersFit, framePicture}
 use Rattle.filters.specs.Passes.{Picture, Pass, columns, run, runAll, newFit}
 use Rattle.filters.specs.Table.{stepOf, WellFormed, filterFrom}
@@ -27,8 +26,8 @@ use Rattle.filters.specs.declared.filter.LiftingFilter.{LiftingFilter}
 use Rattle.filters.proofs.PassesLaws.{runAll-append, each-pass, all-passes}
 use Rattle.filters.proofs.TableLaws.{passes-counted, pass-in-use}
 use Rattle.filters.specs.Pictures.{targetRow}
-use Rattle.sweep.specs.Stages.{lagOf, turnsOf, At, Staged, stepAt, Stages, lastOf, Swept, turnsIn}
-use Rattle.sweep.specs.Turns.{isDue, stepFits, turnFits}
+use Rattle.sweep.specs.Stages.{lagOf, reachOf, cameTo, At, Staged, stepAt, Stages, lastOf, Swept, reachIn}
+use Rattle.sweep.specs.Turns.{stepFits}
 use Rattle.filters.proofs.PicturesLaws.{new-rows}
 
 -- later stages lag behind
@@ -44,39 +43,39 @@ lag-next gap n = omega arith
 
 module _ (pairs last turn j : ℕ) where
   -- a stage up to j has had this turn, a later one has not
-  pub turns-had : (s : ℕ) → 1 ≤ s → s ≤ last → s ≤ j → turnsOf pairs last turn j s ≡ suc turn
-  unfolding turnsOf
-  turns-had s some inside had = rw (ne-eqb s 0 (λ e. omega arith), le-leb s last inside, le-leb s j had) (omega arith)
+  pub reach-had : (s : ℕ) → 1 ≤ s → s ≤ last → s ≤ j → reachOf pairs last turn j s ≡ turn + 8
+  unfolding reachOf
+  reach-had s some inside had = rw (ne-eqb s 0 (λ e. omega arith), le-leb s last inside, le-leb s j had) (omega arith)
 
-  pub turns-not : (s : ℕ) → 1 ≤ s → s ≤ last → j < s → turnsOf pairs last turn j s ≡ turn
-  unfolding turnsOf
-  turns-not s some inside later = rw (ne-eqb s 0 (λ e. omega arith), le-leb s last inside, lt-leb s j later) (omega arith)
+  pub reach-not : (s : ℕ) → 1 ≤ s → s ≤ last → j < s → reachOf pairs last turn j s ≡ turn
+  unfolding reachOf
+  reach-not s some inside later = rw (ne-eqb s 0 (λ e. omega arith), le-leb s last inside, lt-leb s j later) (omega arith)
 
   -- there is no stage past the last
-  pub turns-past : (s : ℕ) → last < s → turnsOf pairs last turn j s ≡ 0
-  unfolding turnsOf
-  turns-past s past = rw (ne-eqb s 0 (λ e. omega arith), lt-leb s last past)
+  pub reach-past : (s : ℕ) → last < s → reachOf pairs last turn j s ≡ 0
+  unfolding reachOf
+  reach-past s past = rw (ne-eqb s 0 (λ e. omega arith), lt-leb s last past)
 
-  pub turns-first : turnsOf pairs last turn j 0 ≡ pairs
-  unfolding turnsOf
-  turns-first = refl
+  pub reach-first : reachOf pairs last turn j 0 ≡ pairs
+  unfolding reachOf
+  reach-first = refl
 
 -- the other stages are as they were
-pub turns-other : (pairs last turn j s : ℕ) → s ≢ suc j → turnsOf pairs last turn (suc j) s ≡ turnsOf pairs last turn j s
-turns-other pairs last turn j s other =
+pub reach-other : (pairs last turn j s : ℕ) → s ≢ suc j → reachOf pairs last turn (suc j) s ≡ reachOf pairs last turn j s
+reach-other pairs last turn j s other =
     elim (ℕ-discrete s 0) [
-      | yes first ↦ rw first (turns-first pairs last turn (suc j) ∙ sym (turns-first pairs last turn j))
+      | yes first ↦ rw first (reach-first pairs last turn (suc j) ∙ sym (reach-first pairs last turn j))
       | no some ↦
           elim (decLt last s) [
-            | yes past ↦ turns-past pairs last turn (suc j) s past ∙ sym (turns-past pairs last turn j s past)
+            | yes past ↦ reach-past pairs last turn (suc j) s past ∙ sym (reach-past pairs last turn j s past)
             | no inside ↦
                 elim (decLt j s) [
                   | yes later ↦
-                      turns-not pairs last turn (suc j) s (omega (arith, some)) (omega arith) (omega (arith, other))
-                      ∙ sym (turns-not pairs last turn j s (omega (arith, some)) (omega arith) later)
+                      reach-not pairs last turn (suc j) s (omega (arith, some)) (omega arith) (omega (arith, other))
+                      ∙ sym (reach-not pairs last turn j s (omega (arith, some)) (omega arith) later)
                   | no had ↦
-                      turns-had pairs last turn (suc j) s (omega (arith, some)) (omega arith) (omega arith)
-                      ∙ sym (turns-had pairs last turn j s (omega (arith, some)) (omega arith) (omega arith))
+                      reach-had pairs last turn (suc j) s (omega (arith, some)) (omega arith) (omega arith)
+                      ∙ sym (reach-had pairs last turn j s (omega (arith, some)) (omega arith) (omega arith))
                 ]
           ]
     ]
@@ -85,97 +84,119 @@ module _ (pairs gap last turn j : ℕ) (below : suc j ≤ last) where
   abbrev stage : ℕ
   stage = suc j
 
-  abbrev turnsBefore : ℕ → ℕ
-  turnsBefore = turnsOf pairs last turn j
+  abbrev reachBefore : ℕ → ℕ
+  reachBefore = reachOf pairs last turn j
 
-  abbrev turnsAfter : ℕ → ℕ
-  turnsAfter = turnsOf pairs last turn (suc j)
+  abbrev reachAfter : ℕ → ℕ
+  reachAfter = reachOf pairs last turn (suc j)
 
-  -- the pair that a stage comes to at this turn is then at that stage
-  come-only : (s k : ℕ) → k + lagOf gap stage ≡ turn → At gap turnsAfter s k → s ≡ stage
-  come-only s k here at =
+  -- The stage comes to pair k at this turn.
+  abbrev pub Due : ℕ → Type 0
+  Due k = (turn ≤ k + lagOf gap stage) × (k + lagOf gap stage < turn + 8)
+
+  -- the pairs that it comes to are then at that stage
+  come-only : (s k : ℕ) → Due k → At gap reachAfter s k → s ≡ stage
+  come-only s k due at =
       elim (decLt s stage) [
         | yes earlier ↦
             absurd
             (omega
-            (arith, lag-grows gap (suc s) stage (omega arith), rw (turns-had pairs last turn (suc j) (suc s) (omega arith) (omega arith) (omega arith)) at (at .next)))
+            (arith, due .1, lag-grows gap (suc s) stage (omega arith), rw (reach-had pairs last turn (suc j) (suc s) (omega arith) (omega arith) (omega arith)) at (at .next)))
         | no notEarlier ↦
             elim (ℕ-discrete s stage) [
               | yes same ↦ same
               | no other ↦
                   elim (decLt last s) [
-                    | yes past ↦ absurd (omega (arith, rw (turns-past pairs last turn (suc j) s past) at (at .come)))
+                    | yes past ↦ absurd (omega (arith, rw (reach-past pairs last turn (suc j) s past) at (at .come)))
                     | no inside ↦
                         absurd
                         (omega
-                        (arith, lag-grows gap stage s (omega arith), rw (turns-not pairs last turn (suc j) s (omega (arith, other)) (omega arith) (omega (arith, other))) at (at .come)))
+                        (arith, due .0, lag-grows gap stage s (omega arith), rw (reach-not pairs last turn (suc j) s (omega (arith, other)) (omega arith) (omega (arith, other))) at (at .come)))
                   ]
             ]
       ]
 
   -- the other pairs are where they were
-  come-other : (s k : ℕ) → k + lagOf gap stage ≢ turn → At gap turnsAfter s k → At gap turnsBefore s k
+  come-other : (s k : ℕ) → (Due k → ⊥) → At gap reachAfter s k → At gap reachBefore s k
   come-other s k other at =
       record {
         come =
             elim (ℕ-discrete s stage) [
               | yes same ↦
-                  rw (same, turns-not pairs last turn j stage (omega arith) below (omega arith))
-                  (omega (arith, other, rw (same, turns-had pairs last turn (suc j) stage (omega arith) below (omega arith)) at (at .come)))
-              | no differs ↦ rw (sym (turns-other pairs last turn j s differs)) (at .come)
+                  let came = rw (same, reach-had pairs last turn (suc j) stage (omega arith) below (omega arith)) at (at .come) in
+                  rw (same, reach-not pairs last turn j stage (omega arith) below (omega arith))
+                  (elim (decLt (k + lagOf gap stage) turn) [
+                    | yes before ↦ before
+                    | no due ↦ absurd (other (omega arith, came))
+                  ])
+              | no differs ↦ rw (sym (reach-other pairs last turn j s differs)) (at .come)
             ];
         next =
             elim (ℕ-discrete (suc s) stage) [
               | yes same ↦
-                  rw (same, turns-not pairs last turn j stage (omega arith) below (omega arith))
-                  (omega (arith, rw (same, turns-had pairs last turn (suc j) stage (omega arith) below (omega arith)) at (at .next)))
-              | no differs ↦ rw (sym (turns-other pairs last turn j (suc s) differs)) (at .next)
+                  rw (same, reach-not pairs last turn j stage (omega arith) below (omega arith))
+                  (omega (arith, rw (same, reach-had pairs last turn (suc j) stage (omega arith) below (omega arith)) at (at .next)))
+              | no differs ↦ rw (sym (reach-other pairs last turn j (suc s) differs)) (at .next)
             ];
       }
 
-  -- what holds of the rows at their stages, once the stage has come to its pair
+  -- what holds of the rows at their stages, once the stage has come to its pairs
   pub staged-more :
       (T T' : ℕ → Bool → ℕ → Type 0)
-      → ((k : ℕ) (even : Bool) → k < pairs → k + lagOf gap stage ≡ turn → T' stage even k)
-      → ((s k : ℕ) (even : Bool) → k < pairs → k + lagOf gap stage ≢ turn → T s even k → T' s even k)
-      → Staged pairs gap turnsBefore T → Staged pairs gap turnsAfter T'
+      → ((k : ℕ) (even : Bool) → k < pairs → Due k → T' stage even k)
+      → ((s k : ℕ) (even : Bool) → k < pairs → (Due k → ⊥) → T s even k → T' s even k)
+      → Staged pairs gap reachBefore T → Staged pairs gap reachAfter T'
   staged-more T T' new kept old s k even inside at =
-      elim (ℕ-discrete (k + lagOf gap stage) turn) [
-        | yes here ↦ let same = come-only s k here at in rw same (new k even inside here)
-        | no other ↦ kept s k even inside other (old s k even inside (come-other s k other at))
+      elim (decLt (k + lagOf gap stage) turn) [
+        | yes before ↦ stays (λ due. omega (arith, due .0))
+        | no from ↦
+            elim (decLt (k + lagOf gap stage) (turn + 8)) [
+              | yes to ↦ let due : Due k = (omega arith, to) in let same = come-only s k due at in rw same (new k even inside due)
+              | no past ↦ stays (λ due. omega (arith, due .1))
+            ]
       ]
+    where
+      stays : (Due k → ⊥) → T' s even k
+      stays other = kept s k even inside other (old s k even inside (come-other s k other at))
+
+  -- they are those from what it has come to on to what it comes to
+  pub due-from : (k : ℕ) → k < pairs → Due k → (cameTo pairs (lagOf gap stage) turn ≤ k) × (k < cameTo pairs (lagOf gap stage) (turn + 8))
+  due-from k inside due = (omega (arith, due .0), omega (arith, due .1))
+
+  pub from-due : (k : ℕ) → cameTo pairs (lagOf gap stage) turn ≤ k → k < cameTo pairs (lagOf gap stage) (turn + 8) → Due k
+  from-due k from to = (omega arith, omega arith)
 
 -- A turn that is over: every stage has had it.
 pub turn-over :
-    (pairs gap last turn : ℕ) (T : ℕ → Bool → ℕ → Type 0) → Staged pairs gap (turnsOf pairs last turn last) T
-    → Staged pairs gap (turnsOf pairs last (suc turn) 0) T
+    (pairs gap last turn : ℕ) (T : ℕ → Bool → ℕ → Type 0) → Staged pairs gap (reachOf pairs last turn last) T
+    → Staged pairs gap (reachOf pairs last (turn + 8) 0) T
 turn-over pairs gap last turn T all s k even inside at =
     all s k even inside (record { come = rw (same s) (at .come); next = rw (same (suc s)) (at .next) })
   where
-    same : (s : ℕ) → turnsOf pairs last turn last s ≡ turnsOf pairs last (suc turn) 0 s
+    same : (s : ℕ) → reachOf pairs last turn last s ≡ reachOf pairs last (turn + 8) 0 s
     same s =
         elim (ℕ-discrete s 0) [
-          | yes first ↦ rw first (turns-first pairs last turn last ∙ sym (turns-first pairs last (suc turn) 0))
+          | yes first ↦ rw first (reach-first pairs last turn last ∙ sym (reach-first pairs last (turn + 8) 0))
           | no some ↦
               elim (decLt last s) [
-                | yes past ↦ turns-past pairs last turn last s past ∙ sym (turns-past pairs last (suc turn) 0 s past)
+                | yes past ↦ reach-past pairs last turn last s past ∙ sym (reach-past pairs last (turn + 8) 0 s past)
                 | no within ↦
-                    turns-had pairs last turn last s (omega (arith, some)) (omega arith) (omega arith)
-                    ∙ sym (turns-not pairs last (suc turn) 0 s (omega (arith, some)) (omega arith) (omega (arith, some)))
+                    reach-had pairs last turn last s (omega (arith, some)) (omega arith) (omega arith)
+                    ∙ sym (reach-not pairs last (turn + 8) 0 s (omega (arith, some)) (omega arith) (omega (arith, some)))
               ]
         ]
 
 -- Stage i + 2 comes to pair k, by a step that reads no farther than the gap.
-module _ (pairs gap last turn i k : ℕ) (below : suc (suc (suc i)) ≤ last) (here : k + lagOf gap (suc (suc i)) ≡ turn) where
+module _ (pairs gap last turn i k : ℕ) (below : suc (suc (suc i)) ≤ last) (due : (turn ≤ k + lagOf gap (suc (suc i))) × (k + lagOf gap (suc (suc i)) < turn + 8)) where
   abbrev now : ℕ → ℕ
-  now = turnsOf pairs last turn (suc i)
+  now = reachOf pairs last turn (suc i)
 
   -- the pair itself is at the stage before
   pub here-before : At gap now (suc i) k
   here-before =
       record {
-        come = rw (turns-had pairs last turn (suc i) (suc i) (omega arith) (omega arith) (omega arith)) (omega (arith, lag-next gap i));
-        next = rw (turns-not pairs last turn (suc i) (suc (suc i)) (omega arith) (omega arith) (omega arith)) (omega arith);
+        come = rw (reach-had pairs last turn (suc i) (suc i) (omega arith) (omega arith) (omega arith)) (omega (arith, due .1, lag-next gap i));
+        next = rw (reach-not pairs last turn (suc i) (suc (suc i)) (omega arith) (omega arith) (omega arith)) (due .0);
       }
 
   -- a pair in bounds of the step is at the stage before or at this one
@@ -188,16 +209,16 @@ module _ (pairs gap last turn i k : ℕ) (below : suc (suc (suc i)) ≤ last) (h
             back
             (all (suc (suc i)) q even inside
             (record {
-              come = rw (turns-not pairs last turn (suc i) (suc (suc i)) (omega arith) (omega arith) (omega arith)) come;
+              come = rw (reach-not pairs last turn (suc i) (suc (suc i)) (omega arith) (omega arith) (omega arith)) come;
               next =
-                  rw (turns-not pairs last turn (suc i) (suc (suc (suc i))) (omega arith) (omega arith) (omega arith))
-                  (omega (arith, lag-next gap (suc i)));
+                  rw (reach-not pairs last turn (suc i) (suc (suc (suc i))) (omega arith) (omega arith) (omega arith))
+                  (omega (arith, due .0, lag-next gap (suc i)));
             }))
         | no notCome ↦
             all (suc i) q even inside
             (record {
-              come = rw (turns-had pairs last turn (suc i) (suc i) (omega arith) (omega arith) (omega arith)) (omega (arith, lag-next gap i));
-              next = rw (turns-not pairs last turn (suc i) (suc (suc i)) (omega arith) (omega arith) (omega arith)) (omega arith);
+              come = rw (reach-had pairs last turn (suc i) (suc i) (omega arith) (omega arith) (omega arith)) (omega (arith, due .1, lag-next gap i));
+              next = rw (reach-not pairs last turn (suc i) (suc (suc i)) (omega arith) (omega arith) (omega arith)) (omega arith);
             })
       ]
 
@@ -216,14 +237,14 @@ lag-last filter gap = rw (add-one (filter .count))
 
 -- At the end every pair has come to the last stage.
 pub swept-all :
-    (f : Frame) (filter : LiftingFilter) (gap turn : ℕ) (stages : ℕ → Picture) (plane : List ℤ) → turn ≡ f .«band_rows» + (filter .count + 1) * gap
-    → Swept f gap (turnsIn f filter turn 0) stages plane
+    (f : Frame) (filter : LiftingFilter) (gap turn : ℕ) (stages : ℕ → Picture) (plane : List ℤ) → f .«band_rows» + (filter .count + 1) * gap ≤ turn
+    → Swept f gap (reachIn f filter turn 0) stages plane
     → (k : ℕ) (even : Bool) → k < f .«band_rows» → (x : ℕ) → x < 2 * f .«band_columns» → framePicture f plane (targetRow even k) x ≡ stages (lastOf filter) (targetRow even k) x
 swept-all f filter gap turn stages plane over all k even inside =
     all (lastOf filter) k even inside
     (record {
-      come = rw (turns-not (f .«band_rows») (lastOf filter) turn 0 (lastOf filter) (omega arith) (omega arith) (omega arith)) (omega (arith, lag-last filter gap));
-      next = rw (turns-past (f .«band_rows») (lastOf filter) turn 0 (suc (lastOf filter)) (omega arith)) (omega arith);
+      come = rw (reach-not (f .«band_rows») (lastOf filter) turn 0 (lastOf filter) (omega arith) (omega arith) (omega arith)) (omega (arith, lag-last filter gap));
+      next = rw (reach-past (f .«band_rows») (lastOf filter) turn 0 (suc (lastOf filter)) (omega arith)) (omega arith);
     })
 
 -- A filter's column steps over a picture S of a frame, which was Q before; Z is left in the end.
@@ -286,35 +307,16 @@ module _ (f : Frame) (filter : LiftingFilter) (Q S Z : Picture) where
         ≡ allBelow (f .«band_rows») (λ k. allBelow w (λ x. fits32 (after (suc i) (targetRow (stepAt filter i .even) k) x)))
     step-test i below = rw (pass-at i below) (new-rows (stepAt filter i) (f .«band_rows») (2 * f .«band_columns») (after (suc i)))
 
-    -- So the steps' new numbers fit where those of every turn do, and those of every turn where they do.
-    pub turns-fit :
-        (gap : ℕ) → ((turn : ℕ) → turn < f .«band_rows» + (filter .count + 1) * gap → turnFits f filter gap turn stagesOf ≡ true)
-        → numbersFit f passes S ≡ true
-    unfolding stepFits
-    turns-fit gap all =
+    -- So the steps' new numbers fit where those of each step and pair do, and those of each where they do.
+    pub steps-fit : ((i k : ℕ) → i < filter .count → k < f .«band_rows» → stepFits f filter stagesOf i k ≡ true) → numbersFit f passes S ≡ true
+    steps-fit all =
         all-passes h w passes S (λ i. columns (stepOf (stepAt filter i)))
         (λ i inside.
         let below : i < filter .count = omega (arith, counted) in
-        step-test i below
-        ∙ all-from _ (f .«band_rows»)
-        (λ k there.
-        let lag = (i + 1) * gap in
-        let farther : lag ≤ (filter .count + 1) * gap = mul-le-mul-right gap (omega arith) in
-        let due : isDue (f .«band_rows») lag (k + lag) ≡ true =
-        rw (le-leb lag (k + lag) (omega arith), lt-ltb (k + lag - lag) (f .«band_rows») (omega arith)) refl
-        in
-        let same : k + lag - lag ≡ k = omega arith in
-        let fits = all-at (stepFits f filter gap (k + lag) stagesOf) (filter .count) i (all (k + lag) (omega arith)) below in
-        rw (due, same, stage-after (suc i) below) at fits))
+        step-test i below ∙ all-from _ (f .«band_rows») (λ k there. rw (stage-after (suc i) below) at (all i k below there)))
 
-    pub turn-fits : (gap turn : ℕ) → numbersFit f passes S ≡ true → turnFits f filter gap turn stagesOf ≡ true
-    unfolding stepFits
-    turn-fits gap turn all = all-from _ (filter .count) (λ i below. by i below (isDue (f .«band_rows») ((i + 1) * gap) turn) refl)
-      where
-        by : (i : ℕ) → i < filter .count → (due : Bool) → isDue (f .«band_rows») ((i + 1) * gap) turn ≡ due → stepFits f filter gap turn stagesOf i ≡ true
-        by i below true due =
-            let inside = ltb-true (turn - (i + 1) * gap) (f .«band_rows») (and-right (leb ((i + 1) * gap) turn) _ due) in
-            let fits = sym (step-test i below) ∙ each-pass h w passes S i (columns (stepOf (stepAt filter i))) (omega (arith, counted)) all in
-            rw (due, stage-after (suc i) below)
-            (all-at (λ k. allBelow w (λ x. fits32 (after (suc i) (targetRow (stepAt filter i .even) k) x))) (f .«band_rows») (turn - (i + 1) * gap) fits inside)
-        by i below false due = rw due
+    pub step-fits : numbersFit f passes S ≡ true → (i k : ℕ) → i < filter .count → k < f .«band_rows» → stepFits f filter stagesOf i k ≡ true
+    step-fits all i k below there =
+        let fits = sym (step-test i below) ∙ each-pass h w passes S i (columns (stepOf (stepAt filter i))) (omega (arith, counted)) all in
+        rw (stage-after (suc i) below)
+        (all-at (λ q. allBelow w (λ x. fits32 (after (suc i) (targetRow (stepAt filter i .even) q) x))) (f .«band_rows») k fits there)

@@ -1,11 +1,11 @@
 -- The code's own forms: the bands of a level put around the picture of the level below, pair of rows by pair of rows. No definition of the format
 -- rests on them.
-use Prim.Native.Nat.{ℕ, _+_, _*_, _/_, _%_}
+use Prim.Native.Nat.{ℕ, _+_, _*_, _/_, _%_, _≤_}
 use mathlib.Core.Bool.{cond}
 use mathlib.Core.List.{List}
 use lib.Dec.{eqb, ltb}
 use lib.IntN.{ℤ, pos}
-use lib.ListN.{getD}
+use lib.ListN.{length, getD}
 use Rattle.base.specs.Fill.{fill}
 use Rattle.lines.specs.Buffers.{Within}
 use Rattle.lifting.specs.Layout.{framePicture}
@@ -25,9 +25,9 @@ abbrev pub PairWithin : Frame → ℕ → ℕ → List ℤ → Type 0
 PairWithin f r size work =
     Within work (2 * r * f .stride) (2 * f .«band_columns») size × Within work ((2 * r + 1) * f .stride) (2 * f .«band_columns») size
 
--- The same at a turn, if it comes to a pair.
-abbrev pub withBandsDue : Frame → ℕ → ℕ → List ℤ → List ℤ → List ℤ
-withBandsDue f padded turn work coefficients = cond (ltb turn (f .«band_rows»)) (withBandRow f padded turn work coefficients) work
+-- The bands of a frame's level lie in the coefficients, which have rows of a padded width.
+abbrev pub BandsInside : Frame → ℕ → List ℤ → Type 0
+BandsInside f padded coefficients = (2 * f .«band_columns» ≤ padded) × (2 * f .«band_rows» * padded ≤ length coefficients)
 
 -- The interleaved picture as it stands in a frame, each row as two halves: the picture below and HL in the even rows, LH and HH in the odd ones.
 unfoldable pub bandRows : Frame → ℕ → List ℤ → List ℤ → Picture

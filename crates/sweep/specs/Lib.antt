@@ -1,4 +1,5 @@
 -- The code's own forms
+pub mod Pairs
 pub mod Bands
 pub mod Stages
 pub mod Turns

@@ -1,32 +1,38 @@
-// Document 01, "Synthesis and analysis": interleave, one pair of rows at a time.
+// Document 01, "Synthesis and analysis": interleave, pair of rows by pair of rows.
 ghost use mathlib.Core.Path.{_≡_};
-ghost use Prim.Native.Nat.{suc, _*_, _≤_, _<_};
-ghost use lib.ListN.{length};
+ghost use Prim.Native.Nat.{ℕ, suc, _≤_, _<_};
 ghost use Rattle.lifting.specs.Layout.{FrameFits};
-ghost use Rattle.sweep.specs.Bands.{withBandRow, PairWithin, withBandsDue};
+ghost use Rattle.sweep.specs.Bands.{withBandRow, PairWithin, BandsInside, bandRows};
+ghost use Rattle.sweep.specs.Pairs.{FramePut};
 use lifting::frame::Frame;
 use lines::measures::copy_measured;
 use lines::measures::join;
 use lines::measures::measure;
 
-// Interleaves the bands of the pair of rows that a turn comes to, if it comes to one. Answers how large its numbers are: none is larger than the answer
-// and 1.
-pub fn interleave_due(
+// Interleaves the bands of the pairs of rows from one on to another. Answers how large their numbers are: none is larger than the answer and 1.
+pub fn interleave_pairs(
     work: &mut [i32],
     coefficients: &[i32],
     padded_width: usize,
     frame: Frame,
-    turn: usize,
+    from: usize,
+    to: usize,
 ) -> u32
-    requires { ⌜ FrameFits frame (now work) ⌝ }
-    requires { ⌜ (2 * frame .«band_columns» ≤ «padded_width») × (2 * frame .«band_rows» * «padded_width» ≤ length (now coefficients)) ⌝ }
-    ensures stored { λ _. ⌜ now (work .exit) ≡ withBandsDue frame «padded_width» turn (now (work .entry)) (now (coefficients .entry)) ⌝ }
-    ensures measured { λ m. ⌜ (turn < frame .«band_rows» → PairWithin frame turn (suc m) (now (work .exit))) ⌝ }
+    requires { ⌜ FrameFits frame (now work) × (from ≤ to) × (to ≤ frame .«band_rows») ⌝ }
+    requires { ⌜ BandsInside frame «padded_width» (now coefficients) ⌝ }
+    ensures stored { λ _. ⌜
+        FramePut frame from to (bandRows frame «padded_width» (now (work .entry)) (now (coefficients .entry))) (now (work .entry)) (now (work .exit))
+        ⌝ }
+    ensures measured { λ m. ⌜ ((k : ℕ) → from ≤ k → k < to → PairWithin frame k (suc m) (now (work .exit))) ⌝ }
 {
-    if turn < frame.band_rows {
-        return interleave_pair(work, coefficients, padded_width, frame, turn);
+    let mut most = 0u32;
+    let mut r = from;
+    while r < to {
+        let here = interleave_pair(work, coefficients, padded_width, frame, r);
+        most = join(most, here);
+        r += 1;
     }
-    0
+    most
 }
 
 // Row r of each band: HL beside row r of the picture of the level below, LH and HH into the row after it.
@@ -38,7 +44,7 @@ fn interleave_pair(
     r: usize,
 ) -> u32
     requires { ⌜ FrameFits frame (now work) × (r < frame .«band_rows») ⌝ }
-    requires { ⌜ (2 * frame .«band_columns» ≤ «padded_width») × (2 * frame .«band_rows» * «padded_width» ≤ length (now coefficients)) ⌝ }
+    requires { ⌜ BandsInside frame «padded_width» (now coefficients) ⌝ }
     ensures stored { λ _. ⌜ now (work .exit) ≡ withBandRow frame «padded_width» r (now (work .entry)) (now (coefficients .entry)) ⌝ }
     ensures measured { λ m. ⌜ PairWithin frame r (suc m) (now (work .exit)) ⌝ }
 {

@@ -1,19 +1,23 @@
 // Document 01, "Synthesis and analysis": a level of synthesis in one sweep over the pairs of rows of its picture.
 ghost use mathlib.Core.Path.{_≡_};
 ghost use mathlib.Core.Bool.{true};
-ghost use Prim.Native.Nat.{suc, _+_, _*_, _≤_, _<_};
-ghost use lib.ListN.{length};
+ghost use Prim.Native.Nat.{_≤_, _<_};
 ghost use Rattle.lifting.specs.Layout.{FrameFits, AgreeOn, framePicture};
 ghost use Rattle.filters.specs.Planes.{pictureOf};
 ghost use Rattle.filters.specs.Table.{WellFormed};
 ghost use Rattle.filters.specs.Pictures.{Agree};
+ghost use Rattle.sweep.specs.Bands.{BandsInside};
+ghost use Rattle.sweep.specs.Pairs.{Tells, EachPair, FramePut};
 ghost use Rattle.sweep.specs.Stages.{Spaced};
-ghost use Rattle.sweep.specs.LastStage.{rowsLag, rowsFitDue, withRowsDue, withSamplesDue};
+ghost use Rattle.sweep.specs.Rows.{rowMade, pairFits};
+ghost use Rattle.sweep.specs.LastStage.{rowsLeft, pairLeft, samplesLeft, SamplesPut};
 ghost use Rattle.sweep.specs.Levels.{RoomFor, levelFits, levelMade, levelLeft};
-use crate::bands::interleave_due;
+use crate::bands::interleave_pairs;
 use crate::rows::Crop;
 use crate::rows::filter_pair;
 use crate::rows::finish_pair;
+use crate::turns::TURN_PAIRS;
+use crate::turns::came_to;
 use crate::turns::lift_turn;
 use filters::filter::LiftingFilter;
 use lifting::frame::Frame;
@@ -43,9 +47,7 @@ pub fn sweep_level(
     requires { ⌜
         FrameFits (level .frame) (now work) × WellFormed filter × Spaced filter (level .gap) × (level .gap ≤ 4) × RoomFor level (now samples)
         ⌝ }
-    requires { ⌜
-        (2 * level .frame .«band_columns» ≤ «padded_width») × (2 * level .frame .«band_rows» * «padded_width» ≤ length (now coefficients))
-        ⌝ }
+    requires { ⌜ BandsInside (level .frame) «padded_width» (now coefficients) ⌝ }
     ensures told { λ r. ⌜ r ≡ levelFits level filter «padded_width» (now (work .entry)) (now (coefficients .entry)) ⌝ }
     ensures done { λ r. ⌜
         (r ≡ true → AgreeOn (level .frame) (framePicture (level .frame) (now (work .exit)))
@@ -56,61 +58,76 @@ pub fn sweep_level(
         (levelMade level filter «padded_width» (now (work .entry)) (now (coefficients .entry))))
         ⌝ }
 {
-    let turns = level.frame.band_rows + (filter.count + 1) * level.gap;
+    let lag = (filter.count + 1) * level.gap;
+    let last = level.frame.band_rows + lag;
     let mut most = 0u32;
-    // The pair to interleave is the turn's for as long as there are pairs. It is counted by itself: a compiler that knew it as the turn would test
-    // whether the rows that are copied lie apart for all turns at once, and they do not where there are no more pairs.
-    let mut pair = 0;
     let mut turn = 0;
-    while turn < turns {
+    while turn < last {
         let frame = level.frame;
-        let here = interleave_due(work, coefficients, padded_width, frame, pair);
+        let pairs = frame.band_rows;
+        let from = came_to(pairs, 0, turn);
+        let to = came_to(pairs, 0, turn + TURN_PAIRS);
+        let here = interleave_pairs(work, coefficients, padded_width, frame, from, to);
         most = join(most, here);
         if !lift_turn(work, frame, filter, level.gap, turn, most) {
             return false;
         }
-        if !filter_due(work, samples, halves, level, filter, turn) {
+        let first = came_to(pairs, lag, turn);
+        let end = came_to(pairs, lag, turn + TURN_PAIRS);
+        if !filter_pairs(work, samples, halves, level, filter, first, end) {
             return false;
         }
-        pair = next_pair(pair, frame.band_rows);
-        turn += 1;
+        turn += TURN_PAIRS;
     }
     true
 }
 
-// The pair after a pair, or the same where there are no more.
-fn next_pair(pair: usize, pairs: usize) -> usize
-    ensures { λ r. ⌜ (pair < pairs → r ≡ suc pair) × (pairs ≤ pair → r ≡ pair) ⌝ }
-{
-    if pair < pairs {
-        return pair + 1;
-    }
-    pair
-}
-
-// Filters the rows of the pair that the last stage comes to at a turn, if it comes to one. False where a new number of a step is outside 32 bits; then
-// the numbers of both planes are of no use.
-fn filter_due(
+// Filters the rows of the pairs from one on to another. False where a new number of a step is outside 32 bits; then the numbers of both planes are of no
+// use.
+fn filter_pairs(
     work: &mut [i32],
     samples: &mut [i32],
     halves: &mut [i32; 4112],
     level: Level,
     filter: LiftingFilter,
-    turn: usize,
+    from: usize,
+    to: usize,
 ) -> bool
     requires { ⌜ FrameFits (level .frame) (now work) × WellFormed filter × RoomFor level (now samples) ⌝ }
-    requires { ⌜ (level .gap ≤ 4) × (turn < level .frame .«band_rows» + rowsLag level filter) ⌝ }
-    ensures told { λ r. ⌜ r ≡ rowsFitDue level filter turn (now (work .entry)) ⌝ }
-    ensures done { λ r. ⌜ (r ≡ true → now (work .exit) ≡ withRowsDue level filter turn (now (work .entry))) ⌝ }
+    requires { ⌜ (from ≤ to) × (to ≤ level .frame .«band_rows») ⌝ }
+    ensures told { λ r. ⌜ Tells r (EachPair from to (pairFits (level .frame) filter (now (work .entry)))) ⌝ }
+    ensures done { λ r. ⌜
+        (r ≡ true → FramePut (level .frame) from to (rowsLeft level filter (now (work .entry))) (now (work .entry)) (now (work .exit)))
+        ⌝ }
     ensures finished { λ r. ⌜
-        (r ≡ true → now (samples .exit) ≡ withSamplesDue level filter turn (now (work .entry)) (now (samples .entry)))
+        (r ≡ true → level .finishes ≡ true
+        → SamplesPut (level .crop) from to (rowMade (level .frame) filter (now (work .entry))) (now (samples .entry)) (now (samples .exit)))
         ⌝ }
 {
-    let lag = (filter.count + 1) * level.gap;
-    if turn < lag {
-        return true;
+    let mut k = from;
+    while k < to {
+        if !filter_rows(work, samples, halves, level, filter, k) {
+            return false;
+        }
+        k += 1;
     }
-    let k = turn - lag;
+    true
+}
+
+// Filters the rows of a pair in place, or finishes them into the samples. False as above.
+fn filter_rows(
+    work: &mut [i32],
+    samples: &mut [i32],
+    halves: &mut [i32; 4112],
+    level: Level,
+    filter: LiftingFilter,
+    k: usize,
+) -> bool
+    requires { ⌜ FrameFits (level .frame) (now work) × WellFormed filter × RoomFor level (now samples) × (k < level .frame .«band_rows») ⌝ }
+    ensures told { λ r. ⌜ r ≡ pairFits (level .frame) filter (now (work .entry)) k ⌝ }
+    ensures done { λ r. ⌜ (r ≡ true → now (work .exit) ≡ pairLeft level filter k (now (work .entry))) ⌝ }
+    ensures finished { λ r. ⌜ (r ≡ true → now (samples .exit) ≡ samplesLeft level filter k (now (work .entry)) (now (samples .entry))) ⌝ }
+{
     let frame = level.frame;
     if level.finishes {
         let crop = level.crop;
