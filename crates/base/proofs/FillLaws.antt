@@ -1,10 +1,10 @@
--- The laws of `fill`: one more store, lengths, what stands where, and a plane filled with zeros.
+-- The laws of `fill`: one more store, more of them, lengths, what stands where, and a plane filled with zeros.
 -- Assumes nothing.
 use mathlib.Core.Path.{_≡_, refl, sym, ap, _∙_, subst}
 use mathlib.Core.Logic.{_≢_}
 use mathlib.Core.List.{List}
 use Prim.Native.Nat.{ℕ, zero, suc, _+_, _<_}
-use native.Mathlib.Nat.{zero-add}
+use native.Mathlib.Nat.{zero-add, add-zero, add-suc, add-assoc}
 use native.Mathlib.Numerals.{add-one}
 use native.Mathlib.Decide.{decLt}
 use native.Mathlib.Omega.{arith}
@@ -24,6 +24,12 @@ module _ {ℓ} {A : Type ℓ} (l : List A) (d : ℕ) (f : ℕ → A) where
   pub fill-more : (n j : ℕ) → j ≡ d + n → set (fill l d n f) j (f n) ≡ fill l d (n + 1) f
   unfolding fill
   fill-more n j at = rw (add-one n, at)
+
+  -- stores that go on where others ended
+  pub fill-append : (n m : ℕ) → fill (fill l d n f) (d + n) m (λ k. f (n + k)) ≡ fill l d (n + m) f
+  unfolding fill
+  fill-append n zero = rw (add-zero n)
+  fill-append n (suc m) = rw (add-suc n m, add-assoc d n m, fill-append n m)
 
   pub length-fill : (n : ℕ) → length (fill l d n f) ≡ length l
   unfolding fill

@@ -108,9 +108,3 @@ unfolding interleaved
 interleaved-odd halves x =
     let half : (2 * x + 1) / 2 ≡ x = omega arith in
     rw (ne-eqb ((2 * x + 1) % 2) 0 (omega arith), half)
-
--- two more stores
-pub fill-two : (l : List ℤ) (d : ℕ) (f : ℕ → ℤ) (x i j : ℕ) → i ≡ d + 2 * x → j ≡ d + 2 * x + 1 → set (set (fill l d (2 * x) f) i (f (2 * x))) j (f (2 * x + 1)) ≡ fill l d (2 * (x + 1)) f
-fill-two l d f x i j at₁ at₂ =
-    let two : 2 * (x + 1) ≡ 2 * x + 1 + 1 = omega arith in
-    rw (fill-more l d f (2 * x) i at₁, two) (fill-more l d f (2 * x + 1) j (omega arith))

@@ -42,6 +42,13 @@ interleaved halves x = cond (eqb (x % 2) 0) (getD halves (4 + x / 2) (pos 0)) (g
 unfoldable pub shifted : Bool → ℤ → ℤ
 shifted shift v = cond shift (floorDiv (v +ℤ pos 1) 2) v
 
--- The plane with the first numbers of that row from an index on, shifted if asked for.
+-- Number x of that row, shifted if asked for.
+abbrev pub rowNumber : List ℤ → Bool → ℕ → ℤ
+rowNumber halves shift x = shifted shift (interleaved halves x)
+
+-- The plane with numbers of that row from an index on: the first ones, and those from number `from` on.
 abbrev pub withRow : List ℤ → ℕ → ℕ → List ℤ → Bool → List ℤ
-withRow plane start count halves shift = fill plane start count (λ x. shifted shift (interleaved halves x))
+withRow plane start count halves shift = fill plane start count (rowNumber halves shift)
+
+abbrev pub withRowPart : List ℤ → ℕ → ℕ → ℕ → List ℤ → Bool → List ℤ
+withRowPart plane start from count halves shift = fill plane start count (λ x. rowNumber halves shift (from + x))
