@@ -1,9 +1,13 @@
 -- The code's own forms: how large the numbers of a pass may become, step by step. No definition of the format rests on them.
-use Prim.Native.Nat.{ℕ, _+_, _*_, _/_, _^_}
+use Prim.Native.Nat.{ℕ, _+_, _*_, _/_, _^_, _≤_}
 use mathlib.Core.Bool.{Bool, not, cond, _&&_}
 use lib.Dec.{ltb}
 use Rattle.filters.specs.declared.filter.LiftingStep.{LiftingStep}
 use Rattle.filters.specs.declared.bounds.Bounds.{Bounds}
+
+-- Bounds that every step can be run with.
+abbrev pub BoundsFit : Bounds → Type 0
+BoundsFit bounds = (bounds .even ≤ 2 ^ 32) × (bounds .odd ≤ 2 ^ 32)
 
 -- How large a step's sum can be where the numbers that it reads are at most so large, and how large the number that it makes of one of a
 -- given size.

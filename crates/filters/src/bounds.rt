@@ -3,7 +3,7 @@ ghost use mathlib.Core.Path.{_≡_};
 ghost use Prim.Native.Nat.{_≤_, _^_};
 ghost use lib.Dec.{ltb};
 ghost use Rattle.filters.specs.Table.{WellFormedStep};
-ghost use Rattle.filters.specs.Bounds.{staysSmall, targetAfter, sourceBound, targetBound, boundsAfter};
+ghost use Rattle.filters.specs.Bounds.{BoundsFit, staysSmall, targetAfter, sourceBound, targetBound, boundsAfter};
 use crate::filter::LiftingStep;
 
 // How large the numbers at the even and at the odd elements of a pass may be.
@@ -14,7 +14,7 @@ pub struct Bounds {
 
 // Whether a step over numbers that keep to bounds stays within 32 bits, its sums and its new numbers.
 pub fn stays_small(step: LiftingStep, bounds: Bounds) -> bool
-    requires { ⌜ WellFormedStep step × (bounds .even ≤ 2 ^ 32) × (bounds .odd ≤ 2 ^ 32) ⌝ }
+    requires { ⌜ WellFormedStep step × BoundsFit bounds ⌝ }
     ensures { λ r. ⌜ r ≡ staysSmall step (sourceBound step bounds) (targetBound step bounds) ⌝ }
 {
     if step.even {
@@ -35,7 +35,7 @@ pub fn reads_narrow(step: LiftingStep, bounds: Bounds) -> bool
 
 // The bounds after a step.
 pub fn bounds_after(step: LiftingStep, bounds: Bounds) -> Bounds
-    requires { ⌜ WellFormedStep step × (bounds .even ≤ 2 ^ 32) × (bounds .odd ≤ 2 ^ 32) ⌝ }
+    requires { ⌜ WellFormedStep step × BoundsFit bounds ⌝ }
     ensures { λ r. ⌜ r ≡ boundsAfter step bounds ⌝ }
 {
     if step.even {

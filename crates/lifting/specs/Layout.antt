@@ -11,6 +11,8 @@ use Rattle.filters.specs.Filters.{Filter}
 use Rattle.filters.specs.Pictures.{Agree}
 use Rattle.filters.specs.Passes.{Picture, Pass, rows, runAll, allNewFit}
 use Rattle.filters.specs.Planes.{pictureOf}
+use Rattle.filters.specs.Table.{filterFrom}
+use Rattle.filters.specs.declared.filter.LiftingFilter.{LiftingFilter}
 use Rattle.lifting.specs.declared.frame.Frame.{Frame}
 
 -- The picture of a frame has rows and columns, no more than 4096, and its rows stand apart within the plane.
@@ -50,6 +52,10 @@ baseOf even = cond even 0 2056
 abbrev pub halfLine : ℕ → ℕ → List ℤ → Line
 halfLine half start plane x = getD plane (start + halfIndex half x) (pos 0)
 
+-- It has columns, no more than 4096, and lies in the plane.
+abbrev pub HalvesInside : ℕ → ℕ → List ℤ → Type 0
+HalvesInside half start plane = (1 ≤ half) × (half ≤ 2048) × (start + 2 * half ≤ length plane)
+
 -- What steps make of a row of two halves, shifted or not, and whether their new numbers fit.
 module _ (half : ℕ) (filter : Filter) (line : Line) where
   abbrev pub rowAfter : Line
@@ -60,3 +66,10 @@ module _ (half : ℕ) (filter : Filter) (line : Line) where
 
   abbrev pub rowNumbersFit : Bool
   rowNumbersFit = allNewFit 1 (2 * half) (map rows (filter .steps)) (λ row. line)
+
+-- The same of the row from an index of a plane on.
+abbrev pub halvesMade : LiftingFilter → ℕ → ℕ → List ℤ → Line
+halvesMade filter half start plane = rowShifted half (filterFrom filter) (halfLine half start plane)
+
+abbrev pub halvesFit : LiftingFilter → ℕ → ℕ → List ℤ → Bool
+halvesFit filter half start plane = rowNumbersFit half (filterFrom filter) (halfLine half start plane)

@@ -49,3 +49,7 @@ rowStart f r k = targetRow (r .even) k * f .stride
 
 abbrev pub newRow : Frame → LiftingStep → ℕ → List ℤ → Line
 newRow f r k plane c = lift (stepOf r) (2 * f .«band_rows») (λ row. framePicture f plane row c) (targetRow (r .even) k)
+
+-- Whether they fit.
+abbrev pub newRowFits : Frame → LiftingStep → List ℤ → ℕ → Bool
+newRowFits f r plane k = allBelow (2 * f .«band_columns») (λ c. fits32 (newRow f r k plane c))

@@ -3,14 +3,13 @@ ghost use mathlib.Core.Path.{_≡_};
 ghost use mathlib.Core.Bool.{true};
 ghost use Prim.Native.Nat.{ℕ, _+_, _*_, _^_, _≤_, _<_};
 ghost use lib.ListN.{getD};
-ghost use Rattle.base.specs.Every.{allBelow};
 ghost use Rattle.base.specs.Fill.{fill};
-ghost use Rattle.base.specs.Range.{fits32};
+ghost use Rattle.filters.specs.Bounds.{BoundsFit};
 ghost use Rattle.filters.specs.Table.{WellFormedStep};
 ghost use Rattle.lifting.specs.Layout.{FrameFits};
 ghost use Rattle.filters.specs.Pictures.{targetRow, sourceRow};
 ghost use Rattle.lifting.specs.LineBounds.{StepRowsWithin};
-ghost use Rattle.lifting.specs.Lines.{rowStart, newRow};
+ghost use Rattle.lifting.specs.Lines.{rowStart, newRow, newRowFits};
 use crate::frame::Frame;
 use crate::steps::lift_exactly;
 use crate::steps::lift_in_32_bits;
@@ -20,9 +19,9 @@ use filters::filter::LiftingStep;
 
 // Runs one step on one element of every column: the row of pair k that the step changes, in 32 bits where the sizes of the numbers allow it.
 pub fn lift_row(work: &mut [i32], frame: Frame, k: usize, step: LiftingStep, bounds: Bounds) -> bool
-    requires { ⌜ FrameFits frame (now work) × WellFormedStep step × (k < frame .«band_rows») × (bounds .even ≤ 2 ^ 32) × (bounds .odd ≤ 2 ^ 32) ⌝ }
+    requires { ⌜ FrameFits frame (now work) × WellFormedStep step × (k < frame .«band_rows») × BoundsFit bounds ⌝ }
     requires { ⌜ StepRowsWithin frame step k bounds (now work) ⌝ }
-    ensures told { λ r. ⌜ r ≡ allBelow (2 * frame .«band_columns») (λ c. fits32 (newRow frame step k (now (work .entry)) c)) ⌝ }
+    ensures told { λ r. ⌜ r ≡ newRowFits frame step (now (work .entry)) k ⌝ }
     ensures done { λ r. ⌜
         (r ≡ true → now (work .exit)
         ≡ fill (now (work .entry)) (rowStart frame step k) (2 * frame .«band_columns») (newRow frame step k (now (work .entry))))

@@ -10,7 +10,7 @@ ghost use Rattle.lines.specs.Buffers.{interleaved};
 ghost use Rattle.filters.specs.Lifting.{lift};
 ghost use Rattle.filters.specs.Passes.{rows, run, newFit};
 ghost use Rattle.filters.specs.Table.{stepOf, WellFormedStep, filterFrom, WellFormed};
-ghost use Rattle.lifting.specs.Layout.{halfLine, baseOf, rowAfter, rowShifted, rowNumbersFit};
+ghost use Rattle.lifting.specs.Layout.{halfLine, baseOf, HalvesInside, rowAfter, rowNumbersFit, halvesMade, halvesFit};
 ghost use Rattle.filters.specs.Bounds.{boundsAfter};
 ghost use Rattle.lifting.specs.LineBounds.{HalvesWithin};
 use crate::steps::lift_exactly;
@@ -42,12 +42,12 @@ pub fn finish_row(
     kept: KeptRow,
     filter: LiftingFilter,
 ) -> bool
-    requires { ⌜ (1 ≤ half) × (half ≤ 2048) × (kept .start + 2 * half ≤ length (now work)) × WellFormed filter ⌝ }
+    requires { ⌜ WellFormed filter × HalvesInside half (kept .start) (now work) ⌝ }
     requires { ⌜ (kept .count ≤ 2 * half) × (kept .to + kept .count ≤ length (now samples)) ⌝ }
-    ensures told { λ r. ⌜ r ≡ rowNumbersFit half (filterFrom filter) (halfLine half (kept .start) (now (work .entry))) ⌝ }
+    ensures told { λ r. ⌜ r ≡ halvesFit filter half (kept .start) (now (work .entry)) ⌝ }
     ensures done { λ r. ⌜
-        (r ≡ true → now (samples .exit) ≡ fill (now (samples .entry)) (kept .to) (kept .count)
-        (rowShifted half (filterFrom filter) (halfLine half (kept .start) (now (work .entry)))))
+        (r ≡ true → now (samples .exit)
+        ≡ fill (now (samples .entry)) (kept .to) (kept .count) (halvesMade filter half (kept .start) (now (work .entry))))
         ⌝ }
     ensures cleared { λ r. ⌜ (r ≡ true → now (work .exit) ≡ fill (now (work .entry)) (kept .start) (2 * half) (λ x. pos 0)) ⌝ }
 {
@@ -78,11 +78,10 @@ pub fn filter_row(
     half: usize,
     filter: LiftingFilter,
 ) -> bool
-    requires { ⌜ (1 ≤ half) × (half ≤ 2048) × (start + 2 * half ≤ length (now work)) × WellFormed filter ⌝ }
-    ensures told { λ r. ⌜ r ≡ rowNumbersFit half (filterFrom filter) (halfLine half start (now (work .entry))) ⌝ }
+    requires { ⌜ WellFormed filter × HalvesInside half start (now work) ⌝ }
+    ensures told { λ r. ⌜ r ≡ halvesFit filter half start (now (work .entry)) ⌝ }
     ensures done { λ r. ⌜
-        (r ≡ true → now (work .exit) ≡ fill (now (work .entry)) start (2 * half)
-        (rowShifted half (filterFrom filter) (halfLine half start (now (work .entry)))))
+        (r ≡ true → now (work .exit) ≡ fill (now (work .entry)) start (2 * half) (halvesMade filter half start (now (work .entry))))
         ⌝ }
 {
     if !filter_row_halves(work, start, halves, half, filter) {
@@ -100,8 +99,8 @@ fn filter_row_halves(
     half: usize,
     filter: LiftingFilter,
 ) -> bool
-    requires { ⌜ (1 ≤ half) × (half ≤ 2048) × (start + 2 * half ≤ length (now work)) × WellFormed filter ⌝ }
-    ensures told { λ r. ⌜ r ≡ rowNumbersFit half (filterFrom filter) (halfLine half start (now (work .entry))) ⌝ }
+    requires { ⌜ WellFormed filter × HalvesInside half start (now work) ⌝ }
+    ensures told { λ r. ⌜ r ≡ halvesFit filter half start (now (work .entry)) ⌝ }
     ensures done { λ r. ⌜
         (r ≡ true → (x : ℕ) → x < 2 * half → interleaved (now (halves .exit)) x
         ≡ rowAfter half (filterFrom filter) (halfLine half start (now (work .entry))) x)

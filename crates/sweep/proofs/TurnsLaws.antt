@@ -33,12 +33,12 @@ use Rattle.filters.specs.declared.bounds.Bounds.{Bounds}
 use Rattle.base.proofs.Parity.{each-parity}
 use Rattle.filters.proofs.BoundsLaws.{after-size, target-bound-after, source-bound-after, step-grows}
 use Rattle.lifting.specs.LineBounds.{StepRowsWithin}
-use Rattle.lifting.specs.Lines.{rowStart, newRow}
+use Rattle.lifting.specs.Lines.{rowStart, newRow, newRowFits}
 use Rattle.filters.proofs.PicturesLaws.{source-target, target-source, source-kept, lift-at-target, target-below, kinds-apart, pairs-apart}
 use Rattle.lifting.proofs.LayoutLaws.{filled-row, other-row}
 use Rattle.sweep.specs.Pairs.{EachPair, FramePut}
 use Rattle.sweep.specs.Stages.{lagOf, cameTo, stepAt, Spaced, Stages, Swept, lastOf, reachIn}
-use Rattle.sweep.specs.Turns.{Bounded, boundsBy, stepFits, newRowFits, stepped}
+use Rattle.sweep.specs.Turns.{Bounded, boundsBy, stepFits, stepped}
 use Rattle.sweep.proofs.StagesLaws.{Due, staged-more, due-from, from-due, here-before, within-gap-before}
 
 -- the bounds after some steps grow with the size of what came

@@ -2,12 +2,13 @@
 -- the format rests on them.
 use mathlib.Core.Bool.{Bool, cond, _&&_}
 use mathlib.Core.List.{List, map}
-use Prim.Native.Nat.{ℕ, _+_, _*_}
+use Prim.Native.Nat.{ℕ, _+_, _*_, _≤_, _<_}
 use lib.Dec.{ltb}
 use lib.IntN.{ℤ}
+use lib.ListN.{length}
 use Rattle.base.specs.Fill.{fill}
 use Rattle.lines.specs.Buffers.{shifted}
-use Rattle.lifting.specs.Layout.{halfIndex, halfLine, rowShifted, rowNumbersFit, runOn, numbersFit}
+use Rattle.lifting.specs.Layout.{FrameFits, halfIndex, halvesMade, halvesFit, runOn, numbersFit}
 use Rattle.filters.specs.Lifting.{Line}
 use Rattle.filters.specs.Passes.{Picture, columns, rows}
 use Rattle.filters.specs.Table.{filterFrom}
@@ -15,12 +16,23 @@ use Rattle.lifting.specs.declared.frame.Frame.{Frame}
 use Rattle.filters.specs.declared.filter.LiftingFilter.{LiftingFilter}
 use Rattle.sweep.specs.declared.rows.Crop.{Crop}
 
+-- A pair of rows of a frame, or a row, that lies in a plane.
+abbrev pub PairInside : Frame → ℕ → List ℤ → Type 0
+PairInside f k plane = FrameFits f plane × (k < f .«band_rows»)
+
+abbrev pub RowInside : Frame → ℕ → List ℤ → Type 0
+RowInside f row plane = FrameFits f plane × (row < 2 * f .«band_rows»)
+
+-- Samples that have room for the first rows and columns of a frame.
+abbrev pub CropInside : Crop → Frame → List ℤ → Type 0
+CropInside c f samples = (c .width ≤ 2 * f .«band_columns») × (c .height * c .width ≤ length samples)
+
 -- What the rows of a filter, with its shift, make of row `row` of a frame, which stands there as two halves; and whether their new numbers fit.
 abbrev pub rowMade : Frame → LiftingFilter → List ℤ → ℕ → Line
-rowMade f filter plane row = rowShifted (f .«band_columns») (filterFrom filter) (halfLine (f .«band_columns») (row * f .stride) plane)
+rowMade f filter plane row = halvesMade filter (f .«band_columns») (row * f .stride) plane
 
 abbrev pub rowFits : Frame → LiftingFilter → List ℤ → ℕ → Bool
-rowFits f filter plane row = rowNumbersFit (f .«band_columns») (filterFrom filter) (halfLine (f .«band_columns») (row * f .stride) plane)
+rowFits f filter plane row = halvesFit filter (f .«band_columns») (row * f .stride) plane
 
 -- The same for both rows of pair k.
 abbrev pub pairFits : Frame → LiftingFilter → List ℤ → ℕ → Bool

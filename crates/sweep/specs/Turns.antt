@@ -12,7 +12,6 @@ use Rattle.filters.specs.Passes.{Picture, columns, run}
 use Rattle.filters.specs.Bounds.{boundOf, boundsAfter}
 use Rattle.filters.specs.Table.{stepOf}
 use Rattle.lifting.specs.Layout.{framePicture}
-use Rattle.lifting.specs.Lines.{newRow}
 use Rattle.filters.specs.Pictures.{targetRow}
 use Rattle.lifting.specs.declared.frame.Frame.{Frame}
 use Rattle.filters.specs.declared.filter.LiftingFilter.{LiftingFilter}
@@ -42,9 +41,6 @@ TurnFits f filter gap turn stages =
     (i : ℕ) → i < filter .count
     → EachPair (cameTo (f .«band_rows») ((i + 1) * gap) turn) (cameTo (f .«band_rows») ((i + 1) * gap) (turn + 8)) (stepFits f filter stages i)
 
--- Whether the new numbers of the row that a step changes in pair k of a plane fit, and the picture that it makes of the whole plane.
-abbrev pub newRowFits : Frame → LiftingStep → List ℤ → ℕ → Bool
-newRowFits f step plane k = allBelow (2 * f .«band_columns») (λ x. fits32 (newRow f step k plane x))
-
+-- The picture that a step makes of a plane.
 abbrev pub stepped : Frame → LiftingStep → List ℤ → Picture
 stepped f step plane = run (2 * f .«band_rows») (2 * f .«band_columns») (columns (stepOf step)) (framePicture f plane)

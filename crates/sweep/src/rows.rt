@@ -1,13 +1,11 @@
 // The last stage of a sweep: the rows of a pair are filtered, in place or into the samples.
 ghost use mathlib.Core.Path.{_≡_};
 ghost use mathlib.Core.Bool.{true};
-ghost use Prim.Native.Nat.{_*_, _≤_, _<_};
+ghost use Prim.Native.Nat.{_*_};
 ghost use lib.IntN.{pos};
-ghost use lib.ListN.{length};
 ghost use Rattle.base.specs.Fill.{fill};
-ghost use Rattle.lifting.specs.Layout.{FrameFits};
 ghost use Rattle.filters.specs.Table.{WellFormed};
-ghost use Rattle.sweep.specs.Rows.{rowMade, rowFits, pairFits, withPair, withRow, withRows};
+ghost use Rattle.sweep.specs.Rows.{PairInside, RowInside, CropInside, rowMade, rowFits, pairFits, withPair, withRow, withRows};
 use filters::filter::LiftingFilter;
 use lifting::frame::Frame;
 use lifting::rows::KeptRow;
@@ -30,7 +28,7 @@ pub fn filter_pair(
     filter: LiftingFilter,
     k: usize,
 ) -> bool
-    requires { ⌜ FrameFits frame (now work) × WellFormed filter × (k < frame .«band_rows») ⌝ }
+    requires { ⌜ WellFormed filter × PairInside frame k (now work) ⌝ }
     ensures told { λ r. ⌜ r ≡ pairFits frame filter (now (work .entry)) k ⌝ }
     ensures done { λ r. ⌜ (r ≡ true → now (work .exit) ≡ withPair frame (now (work .entry)) k (rowMade frame filter (now (work .entry)))) ⌝ }
 {
@@ -48,7 +46,7 @@ fn filter_row_of(
     filter: LiftingFilter,
     row: usize,
 ) -> bool
-    requires { ⌜ FrameFits frame (now work) × WellFormed filter × (row < 2 * frame .«band_rows») ⌝ }
+    requires { ⌜ WellFormed filter × RowInside frame row (now work) ⌝ }
     ensures told { λ r. ⌜ r ≡ rowFits frame filter (now (work .entry)) row ⌝ }
     ensures done { λ r. ⌜
         (r ≡ true → now (work .exit)
@@ -68,8 +66,8 @@ pub fn finish_pair(
     crop: Crop,
     k: usize,
 ) -> bool
-    requires { ⌜ FrameFits frame (now work) × WellFormed filter × (k < frame .«band_rows») ⌝ }
-    requires { ⌜ (crop .width ≤ 2 * frame .«band_columns») × (crop .height * crop .width ≤ length (now samples)) ⌝ }
+    requires { ⌜ WellFormed filter × PairInside frame k (now work) ⌝ }
+    requires { ⌜ CropInside crop frame (now samples) ⌝ }
     ensures told { λ r. ⌜ r ≡ pairFits frame filter (now (work .entry)) k ⌝ }
     ensures done { λ r. ⌜
         (r ≡ true → now (samples .exit) ≡ withRows crop k (rowMade frame filter (now (work .entry))) (now (samples .entry)))
@@ -92,8 +90,8 @@ fn finish_row_of(
     crop: Crop,
     row: usize,
 ) -> bool
-    requires { ⌜ FrameFits frame (now work) × WellFormed filter × (row < 2 * frame .«band_rows») ⌝ }
-    requires { ⌜ (crop .width ≤ 2 * frame .«band_columns») × (crop .height * crop .width ≤ length (now samples)) ⌝ }
+    requires { ⌜ WellFormed filter × RowInside frame row (now work) ⌝ }
+    requires { ⌜ CropInside crop frame (now samples) ⌝ }
     ensures told { λ r. ⌜ r ≡ rowFits frame filter (now (work .entry)) row ⌝ }
     ensures done { λ r. ⌜
         (r ≡ true → now (samples .exit) ≡ withRow crop row (rowMade frame filter (now (work .entry)) row) (now (samples .entry)))

@@ -1,14 +1,16 @@
 // A turn of the sweep: each column step is run on the pairs of rows that it has come to.
 ghost use mathlib.Core.Path.{_≡_};
 ghost use mathlib.Core.Bool.{true};
-ghost use Prim.Native.Nat.{ℕ, suc, _^_, _≤_, _<_};
+ghost use Prim.Native.Nat.{ℕ, suc, _≤_, _<_};
 ghost use Rattle.lifting.specs.Layout.{FrameFits};
 ghost use Rattle.filters.specs.Passes.{Picture};
+ghost use Rattle.filters.specs.Bounds.{BoundsFit};
 ghost use Rattle.filters.specs.Table.{WellFormedStep, WellFormed};
 ghost use Rattle.lifting.specs.LineBounds.{StepRowsWithin};
+ghost use Rattle.lifting.specs.Lines.{newRowFits};
 ghost use Rattle.sweep.specs.Pairs.{Tells, EachPair, FramePut};
 ghost use Rattle.sweep.specs.Stages.{Spaced, Stages, Swept, reachIn, cameTo};
-ghost use Rattle.sweep.specs.Turns.{Bounded, TurnFits, newRowFits, stepped};
+ghost use Rattle.sweep.specs.Turns.{Bounded, TurnFits, stepped};
 use filters::bounds::Bounds;
 use filters::bounds::bounds_after;
 use filters::filter::LiftingFilter;
@@ -78,7 +80,7 @@ fn lift_rows(
     to: usize,
     bounds: Bounds,
 ) -> bool
-    requires { ⌜ FrameFits frame (now work) × WellFormedStep step × (bounds .even ≤ 2 ^ 32) × (bounds .odd ≤ 2 ^ 32) ⌝ }
+    requires { ⌜ FrameFits frame (now work) × WellFormedStep step × BoundsFit bounds ⌝ }
     requires { ⌜ (from ≤ to) × (to ≤ frame .«band_rows») × ((k : ℕ) → from ≤ k → k < to → StepRowsWithin frame step k bounds (now work)) ⌝ }
     ensures told { λ r. ⌜ Tells r (EachPair from to (newRowFits frame step (now (work .entry)))) ⌝ }
     ensures done { λ r. ⌜ (r ≡ true → FramePut frame from to (stepped frame step (now (work .entry))) (now (work .entry)) (now (work .exit))) ⌝ }

@@ -80,7 +80,7 @@ bounds-after-requires : tie.Need-bounds-after-requires Inv-loop μ-loop
 bounds-after-requires c κs =
     let turn = c .before .before .before .before in
     let bounds = turn .before .loop .inv .3 in
-    (formed turn, bounds .0, bounds .1)
+    (formed turn, (bounds .0, bounds .1))
 
 add-k : tie.Need-add-k Inv-loop μ-loop
 add-k c = omega (arith, c .before .before .before .before .before .loop-test .taken)

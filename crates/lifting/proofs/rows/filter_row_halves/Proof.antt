@@ -42,10 +42,10 @@ filter-halves-requires c κs =
     let low = first .copy-measured in
     let high = second .copy-measured2 in
     let within =
-    halves-measured (start .args .half) (start .args .start) (start .args .work .now) (start .args .halves .now) (low .last .0) (high .last .0) (start .pre .1) (omega arith)
+    halves-measured (start .args .half) (start .args .start) (start .args .work .now) (start .args .halves .now) (low .last .0) (high .last .0) (start .pre .1 .1) (omega arith)
     (low .ensures .0) (high .ensures .0) (low .result) (high .result) (low .ensures .1) (high .ensures .1)
     in (
-      (start .pre .0, start .pre .1, start .pre .3),
+      (start .pre .1 .0, start .pre .1 .1, start .pre .0),
       (omega (arith, low .ok), omega (arith, high .ok), within .0, within .1),
     )
 
@@ -59,7 +59,7 @@ copied c =
     let first = c .before .before in
     let start = first .before .before in
     halves-copied (start .args .half) (start .args .start) (start .args .work .now) (start .args .halves .now) (first .copy-measured .last .0) (c .copy-measured2 .last .0)
-    (start .pre .1) (omega arith) (first .copy-measured .ensures .0) (c .copy-measured2 .ensures .0)
+    (start .pre .1 .1) (omega arith) (first .copy-measured .ensures .0) (c .copy-measured2 .ensures .0)
 
 returns : tie.Need-returns
 returns c =
@@ -68,10 +68,10 @@ returns c =
     let steps = filterFrom (start .args .filter) .steps in
     let halves = second .copy-measured2 .last .0 in (
       c .filter-halves .ensures .0
-          ∙ row-told steps (start .args .half) (start .args .start) (start .pre .0) (start .args .work .now) halves (copied second),
+          ∙ row-told steps (start .args .half) (start .args .start) (start .pre .1 .0) (start .args .work .now) halves (copied second),
       λ fits x inside.
           c .filter-halves .ensures .1 fits x inside
-          ∙ row-run steps (start .args .half) (start .args .start) (start .pre .0) (start .args .work .now) halves (copied second) x inside,
+          ∙ row-run steps (start .args .half) (start .args .start) (start .pre .1 .0) (start .args .work .now) halves (copied second) x inside,
     )
 
 pub filter-row-halves-spec : {M : Type 1} → statement M

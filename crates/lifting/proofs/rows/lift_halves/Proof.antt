@@ -46,7 +46,7 @@ line-starts-requires c κs = omega (arith, source-most (c .before .before .befor
 stays-small-requires : tie.Need-stays-small-requires
 stays-small-requires c κs =
     let start = c .before .before .before .before .before .before .before in
-    (start .pre .0 .2, start .pre .1 .0, start .pre .1 .1)
+    (start .pre .0 .2, (start .pre .1 .0, start .pre .1 .1))
 
 -- the buffer with the ends of the half that is read repeated
 abbrev extended : tie.After-line-starts → List ℤ

@@ -9,7 +9,7 @@ finish-pair-requires : tie.Need-finish-pair-requires
 finish-pair-requires c κs =
     let start = c .before .before .before .before .before .before in
     let room = start .pre .2 (c .before .before .before .before .if1 .taken) in
-    ((start .pre .0, start .pre .1, start .pre .3), (room .0, room .2))
+    ((start .pre .1, (start .pre .0, start .pre .3)), (room .0, room .2))
 
 same-length : tie.Need-same-length
 same-length c = search needs

@@ -48,9 +48,9 @@ returns-2 c =
     let work = start .args .work .now in
     let fits = sym (first .ensures .0) ∙ went in
     let stored = first .ensures .1 went in (
-      pair-told frame filter work (start .pre .0) (start .args .k) (rowMade frame filter work) fits _ stored _ (second .ensures .0),
-      λ yes. pair-stored frame filter work (start .pre .0) (start .args .k) (rowMade frame filter work) fits _ stored _ _
-          (second-row frame filter work (start .pre .0) (start .args .k) (rowMade frame filter work) fits _ stored) (second .ensures .1 yes),
+      pair-told frame filter work (start .pre .1 .0) (start .args .k) (rowMade frame filter work) fits _ stored _ (second .ensures .0),
+      λ yes. pair-stored frame filter work (start .pre .1 .0) (start .args .k) (rowMade frame filter work) fits _ stored _ _
+          (second-row frame filter work (start .pre .1 .0) (start .args .k) (rowMade frame filter work) fits _ stored) (second .ensures .1 yes),
     )
 
 pub filter-pair-spec : {M : Type 1} → statement M

@@ -10,15 +10,17 @@ use Rattle.lifting.proofs.LayoutLaws.{row-inside}
 mul-filter-row : tie.Need-mul-filter-row
 mul-filter-row c =
     let start = c .before .before in
-    omega (arith, row-inside (start .args .frame) (start .args .work .now) (start .args .work .now) (start .pre .0) refl (start .args .row) (start .pre .2), start .good .0 .0)
+    omega (arith, row-inside (start .args .frame) (start .args .work .now) (start .args .work .now) (start .pre .1 .0) refl (start .args .row) (start .pre .1 .1), start .good .0 .0)
 
 filter-row-requires : tie.Need-filter-row-requires
 filter-row-requires c κs =
     let start = c .before .before .before in (
-      start .pre .0 .columns-least,
-      start .pre .0 .columns-most,
-      row-inside (start .args .frame) (start .args .work .now) (start .args .work .now) (start .pre .0) refl (start .args .row) (start .pre .2),
-      start .pre .1,
+      start .pre .0,
+      (
+        start .pre .1 .0 .columns-least,
+        start .pre .1 .0 .columns-most,
+        row-inside (start .args .frame) (start .args .work .now) (start .args .work .now) (start .pre .1 .0) refl (start .args .row) (start .pre .1 .1),
+      ),
     )
 
 same-length : tie.Need-same-length

@@ -18,7 +18,7 @@ mul-finish-row-of c = search needs
 finish-row-of-requires : tie.Need-finish-row-of-requires
 finish-row-of-requires c κs =
     let start = c .before .before .before in
-    ((start .pre .0 .0, start .pre .0 .1, omega (arith, start .pre .0 .2)), start .pre .1)
+    ((start .pre .0 .0, (start .pre .0 .1 .0, omega (arith, start .pre .0 .1 .1))), start .pre .1)
 
 same-length : tie.Need-same-length
 same-length c = search needs
@@ -45,7 +45,7 @@ finish-row-of-requires-2 c κs =
     let first = c .before .before .before .before .before .before in
     let start = first .before .before .before .before in
     let called = first .finish-row-of in (
-      (frame-fits-same _ _ _ (start .pre .0 .0) (called .kept .0), start .pre .0 .1, omega (arith, start .pre .0 .2)),
+      (start .pre .0 .0, (frame-fits-same _ _ _ (start .pre .0 .1 .0) (called .kept .0), omega (arith, start .pre .0 .1 .1))),
       (start .pre .1 .0, rw (called .kept .1 .0) (start .pre .1 .1)),
     )
 
@@ -68,13 +68,13 @@ returns-2 c =
     let work = start .args .work .now in
     let fits = sym (first .ensures .0) ∙ went in
     let zeroed = first .ensures .1 .1 went in
-    let same = second-row frame filter work (start .pre .0 .0) (start .args .k) (λ row x. pos 0) fits _ zeroed in (
-      pair-told frame filter work (start .pre .0 .0) (start .args .k) (λ row x. pos 0) fits _ zeroed _ (second .ensures .0),
+    let same = second-row frame filter work (start .pre .0 .1 .0) (start .args .k) (λ row x. pos 0) fits _ zeroed in (
+      pair-told frame filter work (start .pre .0 .1 .0) (start .args .k) (λ row x. pos 0) fits _ zeroed _ (second .ensures .0),
       (
         λ yes. second .ensures .1 .0 yes
             ∙ withRow-same (start .args .crop) (2 * start .args .k + 1) _ _ _ (λ x within. same x (omega (arith, start .pre .1 .0)))
             ∙ rw (first .ensures .1 .0 went) refl,
-        λ yes. pair-stored frame filter work (start .pre .0 .0) (start .args .k) (λ row x. pos 0) fits _ zeroed _ _ (λ x within. refl) (second .ensures .1 .1 yes),
+        λ yes. pair-stored frame filter work (start .pre .0 .1 .0) (start .args .k) (λ row x. pos 0) fits _ zeroed _ _ (λ x within. refl) (second .ensures .1 .1 yes),
       ),
     )
 

@@ -24,7 +24,7 @@ mul-t10 : tie.Need-mul-t10
 mul-t10 c =
     let start = c .before .before in
     omega
-    (arith, row-inside (start .args .frame) (start .args .work .now) (start .args .work .now) (start .pre .0 .0) refl (start .args .row) (start .pre .0 .2), start .good .0 .0)
+    (arith, row-inside (start .args .frame) (start .args .work .now) (start .args .work .now) (start .pre .0 .1 .0) refl (start .args .row) (start .pre .0 .1 .1), start .good .0 .0)
 
 mul-t11 : tie.Need-mul-t11
 mul-t11 c = omega (arith, kept (c .before) .1, c .before .before .good .1 .0)
@@ -34,10 +34,12 @@ finish-row-requires c κs =
     let start = c .before .before .before .before .before in
     let room = kept (c .before .before .before .before) in (
       (
-        start .pre .0 .0 .columns-least,
-        start .pre .0 .0 .columns-most,
-        row-inside (start .args .frame) (start .args .work .now) (start .args .work .now) (start .pre .0 .0) refl (start .args .row) (start .pre .0 .2),
-        start .pre .0 .1,
+        start .pre .0 .0,
+        (
+          start .pre .0 .1 .0 .columns-least,
+          start .pre .0 .1 .0 .columns-most,
+          row-inside (start .args .frame) (start .args .work .now) (start .args .work .now) (start .pre .0 .1 .0) refl (start .args .row) (start .pre .0 .1 .1),
+        ),
       ),
       (omega (arith, room .0, start .pre .1 .0), room .1),
     )

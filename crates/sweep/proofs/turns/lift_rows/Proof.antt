@@ -9,9 +9,10 @@ use native.Mathlib.Omega.{arith}
 use borrow.Author.Tests.{not-true, not-false}
 use lib.ListN.{length}
 use Rattle.lifting.specs.Layout.{FrameFits}
+use Rattle.lifting.specs.Lines.{newRowFits}
 use Rattle.lifting.proofs.LayoutLaws.{frame-fits-same}
 use Rattle.sweep.specs.Pairs.{EachPair, FramePut}
-use Rattle.sweep.specs.Turns.{newRowFits, stepped}
+use Rattle.sweep.specs.Turns.{stepped}
 use Rattle.sweep.proofs.PairsLaws.{pairs-none, pairs-joined}
 use Rattle.sweep.proofs.TurnsLaws.{fits-kept, within-kept, row-put}
 use Rattle.sweep.proofs.turns.lift_rows.Statement.{statement}
@@ -56,7 +57,7 @@ lift-row-requires c κs =
     let turn = c .before in
     let first = start turn in
     let loop = turn .before .loop in (
-      (placed turn, first .pre .0 .1, inside turn, first .pre .0 .2, first .pre .0 .3),
+      (placed turn, first .pre .0 .1, inside turn, first .pre .0 .2),
       within-kept (first .args .frame) (first .args .step) (first .args .work .now) (first .args .from) (loop .k) (inside turn) (loop .work) (placed turn) (put turn)
           (first .args .bounds) (first .pre .1 .2 (loop .k) (loop .inv .0) (turn .loop-test .taken)),
     )

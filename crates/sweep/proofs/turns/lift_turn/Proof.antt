@@ -18,10 +18,11 @@ use Rattle.filters.specs.Table.{WellFormedStep}
 use Rattle.filters.proofs.BoundsLaws.{bounds-most}
 use Rattle.filters.specs.declared.filter.LiftingStep.{LiftingStep}
 use Rattle.lifting.specs.Layout.{FrameFits}
+use Rattle.lifting.specs.Lines.{newRowFits}
 use Rattle.lifting.proofs.LayoutLaws.{frame-fits-same}
 use Rattle.sweep.specs.Pairs.{EachPair, FramePut}
 use Rattle.sweep.specs.Stages.{Stages, Swept, cameTo, reachIn, stepAt}
-use Rattle.sweep.specs.Turns.{Bounded, boundsBy, stepFits, newRowFits, stepped}
+use Rattle.sweep.specs.Turns.{Bounded, boundsBy, stepFits, stepped}
 use Rattle.sweep.proofs.TurnsLaws.{pair-due, row-within, step-told, swept-more, bounded-more}
 use Rattle.sweep.proofs.turns.lift_turn.Statement.{statement}
 use Rattle.sweep.proofs.turns.lift_turn.Tie as tie
@@ -115,7 +116,7 @@ lift-rows-requires c κs =
     let loop = turn .before .loop in
     let first = start turn in
     rw (c .before .before .came-to .ensures, c .before .came-to2 .ensures) (
-      (placed turn, formed turn, loop .inv .3, loop .inv .4),
+      (placed turn, formed turn, (loop .inv .3, loop .inv .4)),
       (
         omega arith,
         omega arith,
@@ -167,7 +168,7 @@ returns c =
 bounds-after-requires : tie.Need-bounds-after-requires Inv-loop μ-loop
 bounds-after-requires c κs =
     let now = turn (c .before .before) in
-    (formed now, head now .loop .inv .3, head now .loop .inv .4)
+    (formed now, (head now .loop .inv .3, head now .loop .inv .4))
 
 add-i : tie.Need-add-i Inv-loop μ-loop
 add-i c = omega arith
