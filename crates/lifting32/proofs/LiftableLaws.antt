@@ -1,24 +1,21 @@
 -- A line that can be lifted by its taps can be lifted by the one or by their pairs, and becomes the same.
 -- Assumes nothing.
-use mathlib.Core.Path.{_≡_, refl, sym, ap, _∙_}
+use mathlib.Core.Path.{_≡_, refl, sym, ap, subst, _∙_}
 use mathlib.Core.Bool.{Bool, false, false≢true}
 use mathlib.Core.List.{List}
 use mathlib.Core.Logic.{_≢_}
-use Prim.Native.Nat.{ℕ, _+_, _-_, _*_, _/_, _^_, _≤_, _<_}
+use Prim.Native.Nat.{ℕ, _+_, _-_, _*_, _^_, _≤_, _<_}
 use native.Mathlib.Omega.{arith}
 use lib.IntN.{ℤ, pos, natAbs, _+ℤ_, _*ℤ_}
 use lib.ListN.{length, getD, set}
-use lib.Signed.{mag}
-use mir.Syntax.{w32}
-use mir.Val.{toZ, ofZ}
 use Rattle.base.specs.Fill.{fill}
 use Rattle.base.proofs.FillLaws.{fill-same, fill-more, getD-fill-out}
 use Rattle.base.proofs.Integers.{size-add}
-use Rattle.base.proofs.RangeLaws.{back}
 use Rattle.lines.specs.Sums.{sumBelow, sizesBelow, tapAt, sumAt, changed, lineLifted}
 use Rattle.lines.proofs.SumsLaws.{tap-size, sum-one, sizes-two}
-use Rattle.lifting32.specs.Liftable.{NewNumbersFit, ReadsFrom, Liftable, oneSum, LiftableByOne, liftedByOne, LiftableByPairs, liftedByPairs}
-use Rattle.lifting32.specs.Pairs.{pairTap, pairOrMiddle, pairIndex, pairAt, pairSum, FourPairsFit}
+use Rattle.lifting32.specs.Liftable.{NewNumbersFit, ReadsFrom, Liftable, liftedByTaps, oneSum, LiftableByOne, liftedByOne}
+use Rattle.lifting32.specs.Liftable.{LiftableByPairs, liftedByPairs, LiftableByPairsOf, liftedByPairsOf}
+use Rattle.lifting32.specs.Pairs.{PairTapsFit, PairedFrom, pairTap, pairOrMiddle, pairIndex, pairAt, pairSum, FourPairsFit}
 use Rattle.lifting32.specs.declared.LineStep.{LineStep}
 use Rattle.lifting32.specs.declared.PairedLine.{PairedLine}
 use Rattle.lifting32.proofs.PairsLaws.{middle-in, middle-below, tap-in, tap-out, index-first, index-second, index-any, pairs-summed, pairs-sized}
@@ -34,49 +31,62 @@ fits-same : (plane : List ℤ) (line : LineStep) (adds : Bool) (f g : ℕ → �
 fits-same plane line adds f g same fit =
     record { inside = fit .inside; scaled = fit .scaled; new-fit = λ x h. rw (same x h) (fit .new-fit x h) }
 
+-- numbers that are narrow are numbers
+pub any-numbers : {plane : List ℤ} {line : LineStep} {taps : List ℤ} {starts : List ℕ} {count : ℕ} {adds narrow : Bool}
+    → Liftable plane line taps starts count adds narrow → Liftable plane line taps starts count adds false
+any-numbers l =
+    record {
+      some-taps = l .some-taps;
+      few-taps = l .few-taps;
+      symmetric = l .symmetric;
+      real-taps = l .real-taps;
+      small-taps = l .small-taps;
+      reads = l .reads;
+      narrowed = λ e. absurd (false≢true e);
+      room = l .room;
+      line-fits = l .line-fits;
+    }
+
+-- One tap.
+module _ {plane : List ℤ} {line : LineStep} {taps : List ℤ} {starts : List ℕ} {adds narrow : Bool} (l : Liftable plane line taps starts 1 adds narrow) where
+  same-one : (x : ℕ) → oneSum plane line (getD starts 0 0) (getD taps 0 (pos 0)) x ≡ sumAt (line .round) taps starts 1 plane x
+  unfolding oneSum tapAt
+  same-one x = sum-one (line .round) (tapAt taps starts plane x)
+
+  pub by-one : LiftableByOne plane line (getD starts 0 0) (getD taps 0 (pos 0)) adds
+  unfolding tapAt sizesBelow
+  by-one =
+      record {
+        reads = l .reads 0 (omega arith);
+        room = λ x h. omega (arith, l .room x h);
+        line-fits = fits-same plane line adds _ _ (λ x h. same-one x) (l .line-fits);
+      }
+
+  pub lifted-one : liftedByOne plane line (getD starts 0 0) (getD taps 0 (pos 0)) adds ≡ liftedByTaps plane line taps starts 1 adds
+  unfolding liftedByOne
+  lifted-one = lines-same plane line adds _ _ (λ x h. same-one x)
+
+-- Pairs of taps, and the indices that they read from.
 module _ {plane : List ℤ} {line : LineStep} {taps : List ℤ} {starts : List ℕ} {count : ℕ} {adds narrow : Bool}
-    (l : Liftable plane line taps starts count adds narrow) where
-  abbrev sums : ℕ → ℤ
-  sums = sumAt (line .round) taps starts count plane
+    (l : Liftable plane line taps starts count adds narrow) (half : ℕ) (whole : count ≡ 2 * half) where
+  some : 1 ≤ half
+  some = omega (arith, whole, l .some-taps)
 
-  -- One tap.
-  module _ (one : count ≡ 1) where
-    same-one : (x : ℕ) → oneSum plane line (getD starts 0 0) (getD taps 0 (pos 0)) x ≡ sums x
-    unfolding oneSum tapAt
-    same-one x = sum-one (line .round) (tapAt taps starts plane x) ∙ ap (λ (n : ℕ). line .round +ℤ sumBelow (tapAt taps starts plane x) n) (sym one)
+  few : half ≤ 4
+  few = omega (arith, whole, l .few-taps)
 
-    pub by-one : LiftableByOne plane line (getD starts 0 0) (getD taps 0 (pos 0)) adds
-    unfolding tapAt sizesBelow
-    by-one =
-        record {
-          reads = l .reads 0 (omega arith);
-          room = λ x h. omega (arith, rw one at (l .room x h));
-          line-fits = fits-same plane line adds _ _ (λ x h. same-one x) (l .line-fits);
-        }
+  pub taps-fit : PairTapsFit taps half
+  taps-fit = record { few = few; small = λ t h. l .small-taps t (omega (arith, whole)) }
 
-    pub lifted-one : liftedByOne plane line (getD starts 0 0) (getD taps 0 (pos 0)) adds ≡ lineLifted adds (line .scale) plane (line .start) (line .width) sums
-    unfolding liftedByOne
-    lifted-one = lines-same plane line adds _ _ (λ x h. same-one x)
-
-  -- Pairs of taps, and the indices that they read from.
-  module _ (other : count ≢ 1) (indices : List ℕ) (same : (j : ℕ) → j < 8 → getD indices j 0 ≡ pairIndex starts (count / 2) j) where
-    abbrev half : ℕ
-    half = count / 2
+  module _ (indices : List ℕ) (same : (j : ℕ) → j < 8 → getD indices j 0 ≡ pairIndex starts half j) where
+    abbrev sums : ℕ → ℤ
+    sums = sumAt (line .round) taps starts count plane
 
     abbrev paired : PairedLine
     paired = record { line = line; indices = indices }
 
     abbrev tap : ℕ → ℤ
     tap j = pairTap taps half j
-
-    whole : count ≡ 2 * half
-    whole = l .symmetric .0 other
-
-    some : 1 ≤ half
-    some = omega (arith, whole, l .some-taps)
-
-    few : half ≤ 4
-    few = omega (arith, l .few-taps)
 
     -- what pair j reads at entry x, and what its taps give
     abbrev first : ℕ → ℕ → ℤ
@@ -139,18 +149,28 @@ module _ {plane : List ℤ} {line : LineStep} {taps : List ℤ} {starts : List �
               omega (arith, sized, all);
         }
 
-    pub by-pairs : LiftableByPairs plane paired (tap 0) (tap 1) (tap 2) (tap 3) adds narrow
-    by-pairs =
+    by-indices : LiftableByPairsOf plane paired taps half adds narrow
+    by-indices =
         record {
           reads = any-index (ReadsFrom plane line) (λ t below. l .reads t below);
           pairs-fit = fit-at;
           line-fits = fits-same plane line adds _ _ (λ x h. same-pairs x) (l .line-fits);
         }
 
-    pub lifted-pairs :
-        liftedByPairs plane paired (tap 0) (tap 1) (tap 2) (tap 3) adds ≡ lineLifted adds (line .scale) plane (line .start) (line .width) sums
+    lifted-indices : liftedByPairsOf plane paired taps half adds ≡ liftedByTaps plane line taps starts count adds
     unfolding liftedByPairs
-    lifted-pairs = lines-same plane line adds _ _ (λ x h. same-pairs x)
+    lifted-indices = lines-same plane line adds _ _ (λ x h. same-pairs x)
+
+  -- a line that is paired is one with its indices
+  module _ {p : PairedLine} (so : PairedFrom line starts half p) where
+    as-indices : p ≡ record { line = line; indices = p .indices }
+    as-indices = ap (λ (k : LineStep). record { line = k; indices = p .indices }) (so .same-line)
+
+    pub by-pairs : LiftableByPairsOf plane p taps half adds narrow
+    by-pairs = subst (λ (q : PairedLine). LiftableByPairsOf plane q taps half adds narrow) (sym as-indices) (by-indices (p .indices) (so .each))
+
+    pub lifted-pairs : liftedByPairsOf plane p taps half adds ≡ liftedByTaps plane line taps starts count adds
+    lifted-pairs = ap (λ (q : PairedLine). liftedByPairsOf plane q taps half adds) as-indices ∙ lifted-indices (p .indices) (so .each)
 
 -- pairs whose numbers are narrow are pairs
 pub widened : {plane : List ℤ} {p : PairedLine} {t0 t1 t2 t3 : ℤ} {adds narrow : Bool}
@@ -163,17 +183,6 @@ widened l =
           record { inside = fit .inside; small = fit .small; narrowed = λ e. absurd (false≢true e); room = fit .room };
       line-fits = l .line-fits;
     }
-
--- the same line by taps as they are handed on, which are those that came
-module _ {plane : List ℤ} {p : PairedLine} {t0 t1 t2 t3 : ℤ} {adds narrow : Bool} (l : LiftableByPairs plane p t0 t1 t2 t3 adds narrow)
-    (fits0 : mag t0 < 2 ^ 31) (fits1 : mag t1 < 2 ^ 31) (fits2 : mag t2 < 2 ^ 31) (fits3 : mag t3 < 2 ^ 31) where
-  pub handed-on : LiftableByPairs plane p (toZ w32 (ofZ w32 t0)) (toZ w32 (ofZ w32 t1)) (toZ w32 (ofZ w32 t2)) (toZ w32 (ofZ w32 t3)) adds narrow
-  handed-on = rw (back w32 t0 fits0, back w32 t1 fits1, back w32 t2 fits2, back w32 t3 fits3) l
-
-  pub handed-back :
-      liftedByPairs plane p (toZ w32 (ofZ w32 t0)) (toZ w32 (ofZ w32 t1)) (toZ w32 (ofZ w32 t2)) (toZ w32 (ofZ w32 t3)) adds
-      ≡ liftedByPairs plane p t0 t1 t2 t3 adds
-  handed-back = rw (back w32 t0 fits0, back w32 t1 fits1, back w32 t2 fits2, back w32 t3 fits3) refl
 
 -- A plane m in which the first x numbers of a line of the plane l are replaced: those outside are as they were, and so is the next, and it can be
 -- replaced too.

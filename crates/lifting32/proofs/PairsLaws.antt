@@ -13,7 +13,7 @@ use borrow.Author.Tests.{lt-ltb, le-ltb}
 use Rattle.base.proofs.Integers.{size-add}
 use Rattle.lines.specs.Sums.{sumBelow, sizesBelow}
 use Rattle.lines.proofs.SumsLaws.{zero-added, pair-size, around, around-none, around-all, pair-added, sizesAround, sizes-around-more, sizes-around-all}
-use Rattle.lifting32.specs.Pairs.{pairTap, pairOrMiddle, pairIndex, pairAt, pairSum, OnePairFits, FourPairsFit}
+use Rattle.lifting32.specs.Pairs.{pairTap, pairOrMiddle, pairIndex, pairAt, pairSum, PairFits, FourPairsFit}
 use Rattle.lifting32.specs.declared.PairedLine.{PairedLine}
 
 -- a pair that there is, one that there is not, and either
@@ -118,28 +118,28 @@ module _ {plane : List ℤ} {p : PairedLine} {x : ℕ} {t0 t1 t2 t3 : ℤ} {narr
   abbrev gives : ℤ → ℕ → ℤ
   gives tap j = tap *ℤ pairAt plane p x j
 
-  beside : (sum tap : ℤ) (j : ℕ) → j < 4 → natAbs sum + natAbs (gives tap j) < 2 ^ 31
-      → OnePairFits narrow sum tap plane (getD (p .indices) j 0 + x) (getD (p .indices) (4 + j) 0 + x)
-  beside sum tap j h room =
-      record {
-        inside = (fit .inside j (omega arith), fit .inside (4 + j) (omega arith));
-        small = fit .small j h;
-        product = record { narrowed = λ e. fit .narrowed e j h; room = room };
-      }
+  beside : (sum tap : ℤ) (j : ℕ) → j < 4 → natAbs sum + natAbs (gives tap j) < 2 ^ 31 → PairFits narrow sum tap plane p x j
+  beside sum tap j h room = (
+    h,
+    record {
+      inside = (fit .inside j (omega arith), fit .inside (4 + j) (omega arith));
+      small = fit .small j h;
+      product = record { narrowed = λ e. fit .narrowed e j h; room = room };
+    },
+  )
 
-  pub first-fits : OnePairFits narrow (p .line .round) t0 plane (getD (p .indices) 0 0 + x) (getD (p .indices) 4 0 + x)
+  pub first-fits : PairFits narrow (p .line .round) t0 plane p x 0
   first-fits = beside (p .line .round) t0 0 (omega arith) (omega (arith, fit .room))
 
-  pub second-fits : OnePairFits narrow (p .line .round +ℤ gives t0 0) t1 plane (getD (p .indices) 1 0 + x) (getD (p .indices) 5 0 + x)
+  pub second-fits : PairFits narrow (p .line .round +ℤ gives t0 0) t1 plane p x 1
   second-fits = beside _ t1 1 (omega arith) (omega (arith, fit .room, size-add (p .line .round) (gives t0 0)))
 
-  pub third-fits : OnePairFits narrow ((p .line .round +ℤ gives t0 0) +ℤ gives t1 1) t2 plane (getD (p .indices) 2 0 + x) (getD (p .indices) 6 0 + x)
+  pub third-fits : PairFits narrow ((p .line .round +ℤ gives t0 0) +ℤ gives t1 1) t2 plane p x 2
   third-fits =
       beside _ t2 2 (omega arith)
       (omega (arith, fit .room, size-add (p .line .round) (gives t0 0), size-add (p .line .round +ℤ gives t0 0) (gives t1 1)))
 
-  pub fourth-fits :
-      OnePairFits narrow (((p .line .round +ℤ gives t0 0) +ℤ gives t1 1) +ℤ gives t2 2) t3 plane (getD (p .indices) 3 0 + x) (getD (p .indices) 7 0 + x)
+  pub fourth-fits : PairFits narrow (((p .line .round +ℤ gives t0 0) +ℤ gives t1 1) +ℤ gives t2 2) t3 plane p x 3
   fourth-fits =
       beside _ t3 3 (omega arith)
       (omega (

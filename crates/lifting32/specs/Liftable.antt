@@ -10,7 +10,7 @@ use lib.ListN.{length, getD}
 use Rattle.base.specs.Range.{fits32}
 use Rattle.lines.specs.Buffers.{Symmetric}
 use Rattle.lines.specs.Sums.{sizesBelow, tapAt, sumAt, newAt, lineLifted}
-use Rattle.lifting32.specs.Pairs.{pairSum, FourPairsFit}
+use Rattle.lifting32.specs.Pairs.{pairTap, pairSum, FourPairsFit}
 use Rattle.lifting32.specs.declared.LineStep.{LineStep}
 use Rattle.lifting32.specs.declared.PairedLine.{PairedLine}
 
@@ -63,3 +63,11 @@ pub record LiftableByPairs (plane : List ℤ) (p : PairedLine) (t0 t1 t2 t3 : �
 unfoldable pub liftedByPairs : List ℤ → PairedLine → ℤ → ℤ → ℤ → ℤ → Bool → List ℤ
 liftedByPairs plane p t0 t1 t2 t3 adds =
     lineLifted adds (p .line .scale) plane (p .line .start) (p .line .width) (pairSum plane p t0 t1 t2 t3)
+
+-- By the pairs of 2 * half taps.
+abbrev pub LiftableByPairsOf : List ℤ → PairedLine → List ℤ → ℕ → Bool → Bool → Type 0
+LiftableByPairsOf plane p taps half adds narrow =
+    LiftableByPairs plane p (pairTap taps half 0) (pairTap taps half 1) (pairTap taps half 2) (pairTap taps half 3) adds narrow
+
+abbrev pub liftedByPairsOf : List ℤ → PairedLine → List ℤ → ℕ → Bool → List ℤ
+liftedByPairsOf plane p taps half adds = liftedByPairs plane p (pairTap taps half 0) (pairTap taps half 1) (pairTap taps half 2) (pairTap taps half 3) adds

@@ -7,11 +7,12 @@ pub mod pairs;
 
 ghost use mathlib.Core.Path.{_≡_};
 ghost use Rattle.lifting32.specs.Liftable.{Liftable, liftedByTaps};
-use crate::known_taps::lift_known;
+use crate::known_taps::lift_more_pairs;
+use crate::known_taps::lift_one_pair;
 use crate::known_taps::lift_single;
-use crate::pairs::pair_indices;
+use crate::known_taps::lift_two_pairs;
 use crate::pairs::pair_tap;
-use base::signed;
+use crate::pairs::paired_line;
 
 // A line that is lifted: where it starts in its plane, how many numbers it has, what their sums start with, and the scale.
 pub struct LineStep {
@@ -28,7 +29,8 @@ pub struct PairedLine {
 }
 
 // Lifts a line by sums of taps, each of which reads from its own start in the plane: adds or subtracts each sum, divided by 2^scale. Where `narrow`
-// is true, the numbers that are read are below 2^14 in size.
+// is true, the numbers that are read are below 2^14 in size. In each arm the compiler knows how many pairs of taps there are, and finds only the
+// indices that they read from.
 pub fn lift_small(
     plane: &mut [i32],
     line: LineStep,
@@ -43,16 +45,21 @@ pub fn lift_small(
         now (plane .exit) ≡ liftedByTaps (now (plane .entry)) line (now (taps .entry)) (now (starts .entry)) count adds
         ⌝ }
 {
-    if count == 1 {
-        lift_single(plane, line, starts[0], signed::narrow(taps[0]), adds);
-        return;
+    match count {
+        1 => lift_single(plane, line, taps, starts, adds),
+        2 => {
+            let paired = paired_line(line, starts, 1);
+            lift_one_pair(plane, paired, pair_tap(taps, 1, 0), adds, narrow);
+        }
+        4 => {
+            let paired = paired_line(line, starts, 2);
+            let inner = pair_tap(taps, 2, 0);
+            lift_two_pairs(plane, paired, inner, pair_tap(taps, 2, 1), adds);
+        }
+        _ => {
+            let half = count / 2;
+            let paired = paired_line(line, starts, half);
+            lift_more_pairs(plane, paired, taps, half, adds, narrow);
+        }
     }
-    let half = count / 2;
-    let indices = pair_indices(starts, half);
-    let t0 = pair_tap(taps, half, 0);
-    let t1 = pair_tap(taps, half, 1);
-    let t2 = pair_tap(taps, half, 2);
-    let t3 = pair_tap(taps, half, 3);
-    let paired = PairedLine { line, indices };
-    lift_known(plane, paired, t0, t1, t2, t3, adds, narrow);
 }

@@ -6,7 +6,7 @@ ghost use lib.IntN.{_+ℤ_, _*ℤ_};
 ghost use Rattle.base.specs.Range.{fits32};
 ghost use Rattle.lines.specs.Sums.{changed};
 ghost use Rattle.lifting32.specs.Liftable.{LiftableByOne, liftedByOne, LiftableByPairs, liftedByPairs};
-ghost use Rattle.lifting32.specs.Pairs.{FourPairsFit, pairSum, OnePairFits, ProductFits, pairOf};
+ghost use Rattle.lifting32.specs.Pairs.{FourPairsFit, pairSum, PairFits, pairAt, OnePairFits, pairOf, ProductFits};
 use crate::LineStep;
 use crate::PairedLine;
 use crate::arithmetic::add;
@@ -77,20 +77,29 @@ fn pair_sum(
     let round = line.round;
     let indices = paired.indices;
     let s0 = with_pair(round, plane, indices[0] + x, indices[4] + x, t0, narrow);
-    let s1 = with_outer_pair(s0, plane, indices[1] + x, indices[5] + x, t1, narrow);
-    let s2 = with_outer_pair(s1, plane, indices[2] + x, indices[6] + x, t2, narrow);
-    with_outer_pair(s2, plane, indices[3] + x, indices[7] + x, t3, narrow)
+    let s1 = with_outer_pair(s0, plane, paired, x, 1, t1, narrow);
+    let s2 = with_outer_pair(s1, plane, paired, x, 2, t2, narrow);
+    with_outer_pair(s2, plane, paired, x, 3, t3, narrow)
 }
 
-// A sum with a pair of taps added, where there is one: a tap of 0 reads nothing.
-fn with_outer_pair(sum: i32, plane: &[i32], a: usize, b: usize, tap: i32, narrow: bool) -> i32
-    requires { ⌜ OnePairFits narrow sum tap (now plane) a b ⌝ }
-    ensures { λ r. ⌜ r ≡ sum +ℤ tap *ℤ pairOf (now (plane .entry)) a b ⌝ }
+// A sum with pair j added, at entry x of a line, where there is such a pair: a tap of 0 reads nothing.
+fn with_outer_pair(
+    sum: i32,
+    plane: &[i32],
+    paired: PairedLine,
+    x: usize,
+    j: usize,
+    tap: i32,
+    narrow: bool,
+) -> i32
+    requires { ⌜ PairFits narrow sum tap (now plane) paired x j ⌝ }
+    ensures { λ r. ⌜ r ≡ sum +ℤ tap *ℤ pairAt (now (plane .entry)) paired x j ⌝ }
 {
     if tap == 0 {
         return sum;
     }
-    with_pair(sum, plane, a, b, tap, narrow)
+    let indices = paired.indices;
+    with_pair(sum, plane, indices[j] + x, indices[4 + j] + x, tap, narrow)
 }
 
 // A sum with a pair of taps added, which read from two indices of the plane.

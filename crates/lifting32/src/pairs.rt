@@ -1,15 +1,15 @@
 // Taps that are the same from both ends, as pairs of equal taps, counted from the middle pair outward. There are four at most; a pair that there is
 // not has the tap 0 and reads what the middle pair reads.
 ghost use mathlib.Core.Path.{_≡_};
-ghost use Prim.Native.Nat.{ℕ, _≤_, _<_, _^_};
-ghost use lib.IntN.{pos, natAbs};
-ghost use lib.ListN.{getD};
-ghost use Rattle.lifting32.specs.Pairs.{pairTap, pairIndex, pairOrMiddle};
+ghost use Prim.Native.Nat.{_≤_, _<_};
+ghost use Rattle.lifting32.specs.Pairs.{PairTapsFit, pairTap, PairedFrom, pairIndex, pairOrMiddle};
+use crate::LineStep;
+use crate::PairedLine;
 use base::signed;
 
 // The tap of pair j.
 pub fn pair_tap(taps: &[i64; 8], half: usize, j: usize) -> i32
-    requires { ⌜ (half ≤ 4) × ((t : ℕ) → t < half → natAbs (getD (now taps) t (pos 0)) < 2 ^ 31) ⌝ }
+    requires { ⌜ PairTapsFit (now taps) half ⌝ }
     ensures { λ r. ⌜ r ≡ pairTap (now (taps .entry)) half j ⌝ }
 {
     if j < half {
@@ -18,10 +18,10 @@ pub fn pair_tap(taps: &[i64; 8], half: usize, j: usize) -> i32
     0
 }
 
-// Where the taps of the pairs read from: the earlier ones, then the later ones.
-pub fn pair_indices(starts: &[usize; 8], half: usize) -> [usize; 8]
+// The line with where the taps of its pairs read from: the earlier ones, then the later ones.
+pub fn paired_line(line: LineStep, starts: &[usize; 8], half: usize) -> PairedLine
     requires { ⌜ (1 ≤ half) × (half ≤ 4) ⌝ }
-    ensures { λ r. ⌜ ((j : ℕ) → j < 8 → getD r j 0 ≡ pairIndex (now (starts .entry)) half j) ⌝ }
+    ensures { λ r. ⌜ PairedFrom line (now (starts .entry)) half r ⌝ }
 {
     let mut indices = [0usize; 8];
     let mut j = 0;
@@ -29,7 +29,7 @@ pub fn pair_indices(starts: &[usize; 8], half: usize) -> [usize; 8]
         indices[j] = pair_index(starts, half, j);
         j += 1;
     }
-    indices
+    PairedLine { line, indices }
 }
 
 // Where entry j of that list reads from.

@@ -46,25 +46,13 @@ add-with-pair-2 : tie.Need-add-with-pair-2
 add-with-pair-2 c = omega (arith, c .before .before .before .pre .inside 4 (omega arith))
 
 with-pair-requires : tie.Need-with-pair-requires
-with-pair-requires c κs = let s = c .before .before .before in rw (round (c .before), tap-0 s) (first-fits (s .pre))
+with-pair-requires c κs = let s = c .before .before .before in rw (round (c .before), tap-0 s) (first-fits (s .pre) .1)
 
 sum-1 : (c : tie.After-with-pair) → let s = c .before .before .before .before in
     toZ w32 (ofZ w32 (c .with-pair .result)) ≡ s .args .paired .line .round +ℤ gives s (s .args .t0) 0
 sum-1 c =
     let s = c .before .before .before .before in
     back w32 _ (c .with-pair .ok) ∙ c .with-pair .ensures ∙ rw (round (c .before .before), tap-0 s) refl
-
-array-read-with-outer-pair : tie.Need-array-read-with-outer-pair
-array-read-with-outer-pair c = search needs
-
-add-with-outer-pair : tie.Need-add-with-outer-pair
-add-with-outer-pair c = omega (arith, c .before .before .before .before .pre .inside 1 (omega arith))
-
-array-read-with-outer-pair-2 : tie.Need-array-read-with-outer-pair-2
-array-read-with-outer-pair-2 c = search needs
-
-add-with-outer-pair-2 : tie.Need-add-with-outer-pair-2
-add-with-outer-pair-2 c = omega (arith, c .before .before .before .before .pre .inside 5 (omega arith))
 
 with-outer-pair-requires : tie.Need-with-outer-pair-requires
 with-outer-pair-requires c κs = let s = c .before .before .before .before in rw (sum-1 c, tap-1 s) (second-fits (s .pre))
@@ -75,18 +63,6 @@ sum-2 c =
     let s = c .before .before .before .before .before in
     back w32 _ (c .with-outer-pair .ok) ∙ c .with-outer-pair .ensures ∙ rw (sum-1 (c .before), tap-1 s) refl
 
-array-read-with-outer-pair-3 : tie.Need-array-read-with-outer-pair-3
-array-read-with-outer-pair-3 c = search needs
-
-add-with-outer-pair-3 : tie.Need-add-with-outer-pair-3
-add-with-outer-pair-3 c = omega (arith, c .before .before .before .before .before .pre .inside 2 (omega arith))
-
-array-read-with-outer-pair-4 : tie.Need-array-read-with-outer-pair-4
-array-read-with-outer-pair-4 c = search needs
-
-add-with-outer-pair-4 : tie.Need-add-with-outer-pair-4
-add-with-outer-pair-4 c = omega (arith, c .before .before .before .before .before .pre .inside 6 (omega arith))
-
 with-outer-pair-requires-2 : tie.Need-with-outer-pair-requires-2
 with-outer-pair-requires-2 c κs = let s = c .before .before .before .before .before in rw (sum-2 c, tap-2 s) (third-fits (s .pre))
 
@@ -96,18 +72,6 @@ sum-3 : (c : tie.After-with-outer-pair2) → let s = c .before .before .before .
 sum-3 c =
     let s = c .before .before .before .before .before .before in
     back w32 _ (c .with-outer-pair2 .ok) ∙ c .with-outer-pair2 .ensures ∙ rw (sum-2 (c .before), tap-2 s) refl
-
-array-read-with-outer-pair-5 : tie.Need-array-read-with-outer-pair-5
-array-read-with-outer-pair-5 c = search needs
-
-add-with-outer-pair-5 : tie.Need-add-with-outer-pair-5
-add-with-outer-pair-5 c = omega (arith, c .before .before .before .before .before .before .pre .inside 3 (omega arith))
-
-array-read-with-outer-pair-6 : tie.Need-array-read-with-outer-pair-6
-array-read-with-outer-pair-6 c = search needs
-
-add-with-outer-pair-6 : tie.Need-add-with-outer-pair-6
-add-with-outer-pair-6 c = omega (arith, c .before .before .before .before .before .before .pre .inside 7 (omega arith))
 
 with-outer-pair-requires-3 : tie.Need-with-outer-pair-requires-3
 with-outer-pair-requires-3 c κs = let s = c .before .before .before .before .before .before in rw (sum-3 c, tap-3 s) (fourth-fits (s .pre))
@@ -127,19 +91,7 @@ pair-sum-spec =
     array-read-with-pair-2
     add-with-pair-2
     with-pair-requires
-    array-read-with-outer-pair
-    add-with-outer-pair
-    array-read-with-outer-pair-2
-    add-with-outer-pair-2
     with-outer-pair-requires
-    array-read-with-outer-pair-3
-    add-with-outer-pair-3
-    array-read-with-outer-pair-4
-    add-with-outer-pair-4
     with-outer-pair-requires-2
-    array-read-with-outer-pair-5
-    add-with-outer-pair-5
-    array-read-with-outer-pair-6
-    add-with-outer-pair-6
     with-outer-pair-requires-3
     returns)

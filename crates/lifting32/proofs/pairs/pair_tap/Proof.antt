@@ -32,7 +32,7 @@ element-copy-out-narrow c = search needs
 narrow-requires : tie.Need-narrow-requires
 narrow-requires c κs =
     let s = c .before .before in
-    rw (back w64 (tap s) (c .narrow-arg .given)) (size-fits32 (tap s) (s .pre .1 _ (omega arith)))
+    rw (back w64 (tap s) (c .narrow-arg .given)) (size-fits32 (tap s) (s .pre .small _ (omega arith)))
 
 returns : tie.Need-returns
 unfolding pairTap

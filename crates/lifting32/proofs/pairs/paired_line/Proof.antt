@@ -1,19 +1,19 @@
--- `lifting32::pairs::pair_indices` meets its contract: after j turns j indices are stored.
+-- `lifting32::pairs::paired_line` meets its contract: after j turns j indices are stored.
 -- Assumes nothing.
-use mathlib.Core.Path.{_≡_, sym}
+use mathlib.Core.Path.{_≡_, refl, sym}
 use Prim.Native.Nat.{_-_, _≤_}
 use native.Mathlib.Omega.{arith}
 use Rattle.base.specs.Fill.{fill}
 use Rattle.base.proofs.FillLaws.{fill-none, fill-more, getD-fill-start}
 use Rattle.lifting32.specs.Pairs.{pairIndex}
-use Rattle.lifting32.proofs.pairs.pair_indices.Statement.{statement}
-use Rattle.lifting32.proofs.pairs.pair_indices.Tie as tie
+use Rattle.lifting32.proofs.pairs.paired_line.Statement.{statement}
+use Rattle.lifting32.proofs.pairs.paired_line.Tie as tie
 
 abbrev Inv-loop : tie.InvT-loop
-Inv-loop starts half indices₀ j₀ indices j = (j ≤ 8) × (indices ≡ fill indices₀ 0 j (pairIndex starts half))
+Inv-loop line starts half indices₀ j₀ indices j = (j ≤ 8) × (indices ≡ fill indices₀ 0 j (pairIndex starts half))
 
 abbrev μ-loop : tie.MeasureT-loop
-μ-loop starts half indices₀ j₀ indices j = 8 - j
+μ-loop line starts half indices₀ j₀ indices j = 8 - j
 
 loop-holds : tie.Need-loop-holds Inv-loop μ-loop
 loop-holds c = (omega arith, sym (fill-none _ 0 _))
@@ -37,12 +37,12 @@ loop-again : tie.Need-loop-again Inv-loop μ-loop
 loop-again c = (omega arith, rw (c .pair-index .ensures, c .before .before .loop .inv .1) (fill-more _ 0 _ _ _ (omega arith)))
 
 returns : tie.Need-returns Inv-loop μ-loop
-returns c j h =
+returns c =
     let all : c .before .loop .j ≡ 8 = omega arith in
-    rw (c .before .loop .inv .1, all) (getD-fill-start _ _ 8 j 0 h h)
+    record { same-line = refl; each = λ j h. rw (c .before .loop .inv .1, all) (getD-fill-start _ _ 8 j 0 h h) }
 
-pub pair-indices-spec : {M : Type 1} → statement M
-pair-indices-spec =
+pub paired-line-spec : {M : Type 1} → statement M
+paired-line-spec =
     tie.close
     (tie.spec
     Inv-loop
