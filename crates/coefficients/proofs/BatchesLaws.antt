@@ -26,7 +26,7 @@ use Rattle.lookups.proofs.LookupsLaws.{zero-signed, lookup-present, lookup-ones
 use Rattle.coefficients.specs.Reading.{Run, goesOn}
 use Rattle.coefficients.specs.Scaling.{smallValue, Small}
 use Rattle.coefficients.specs.Values.{indexOf, entry, entries, Clear, Ready}
-use Rattle.coefficients.specs.Batches.{ReadsAhead}
+use Rattle.coefficients.specs.Batches.{ReadsAhead, ReadsWithin}
 use Rattle.coefficients.specs.declared.values.Layout.{Layout}
 use Rattle.coefficients.proofs.ReadingLaws.{store-fits, value-read}
 use Rattle.coefficients.proofs.ValuesLaws.{entries-none, entries-more, entries-adds, entries-keep, index-grows}
@@ -229,7 +229,7 @@ module _ (w : ℕ) (small : List ℤ) (l : Layout) (from : ℕ) (start : List �
 
   -- n zeros at once, where a test tells that n ones start the window
   pub zeros-at-once : (n : ℕ) (ones : Bool) → n ≤ 32 → from + n ≤ l .count → ones ≡ eqb (w / 2 ^ (64 - n) + 1) (2 ^ n) → ones ≡ true →
-      (from + n ≤ l .count) × ReadsAhead w small (indexOf l) from start (record { count = n; bits = n }) start
+      ReadsWithin w small l from start (record { count = n; bits = n }) start
   zeros-at-once n ones few fits is so =
       (fits, ahead-zeros w small (indexOf l) (index-grows l) from (l .count) start (ready .clear) n (omega arith) (eqb-true _ _ (sym is ∙ so)) fits)
 

@@ -12,7 +12,7 @@ ghost use Rattle.coefficients.specs.Reading.{store};
 ghost use Rattle.coefficients.specs.Scaling.{scaleOf, Bounded, smallFit};
 ghost use Rattle.coefficients.specs.Values.{after, indexOf, Ready, Decoding};
 ghost use Rattle.coefficients.specs.Portions.{Sound, notRead, Reads, AllRead};
-ghost use Rattle.coefficients.specs.Batches.{ReadsAhead};
+ghost use Rattle.coefficients.specs.Batches.{ReadsWithin};
 use crate::quantiser::Quantiser;
 use crate::quantiser::dequantised;
 use crate::quantiser::small_fit;
@@ -155,10 +155,7 @@ fn read_batch(
     small: &[i32; 32],
 ) -> Batch
     requires { ⌜ (from < layout .count) × Ready layout from (now plane) × KnowsCodes (now table) ⌝ }
-    ensures { λ r. ⌜
-        (from + r .count ≤ layout .count)
-        × ReadsAhead window (now (small .entry)) (indexOf layout) from (now (plane .entry)) r (now (plane .exit))
-        ⌝ }
+    ensures { λ r. ⌜ ReadsWithin window (now (small .entry)) layout from (now (plane .entry)) r (now (plane .exit)) ⌝ }
 {
     let left = layout.count - from;
     if 64 <= left {
@@ -183,7 +180,8 @@ fn read_batch(
     read_lookups(plane, layout, from, window, table, small)
 }
 
-// Reads values by the bits of a window where 63 or more are left: 32 at once where they are zeros, others by lookups.
+// Reads values by the bits of a window where 63 or more are left: 32 at once where they are zeros; others by at most seven lookups, none of which
+// can pass the layout's end, since each has nine values at most.
 fn read_many(
     plane: &mut [i32],
     layout: Layout,
@@ -193,10 +191,7 @@ fn read_many(
     small: &[i32; 32],
 ) -> Batch
     requires { ⌜ (from + 63 ≤ layout .count) × Ready layout from (now plane) × KnowsCodes (now table) ⌝ }
-    ensures { λ r. ⌜
-        (from + r .count ≤ layout .count)
-        × ReadsAhead window (now (small .entry)) (indexOf layout) from (now (plane .entry)) r (now (plane .exit))
-        ⌝ }
+    ensures { λ r. ⌜ ReadsWithin window (now (small .entry)) layout from (now (plane .entry)) r (now (plane .exit)) ⌝ }
 {
     if starts_with_ones(window, 32) {
         return Batch {
@@ -204,24 +199,6 @@ fn read_many(
             bits: 32,
         };
     }
-    read_many_lookups(plane, layout, from, window, table, small)
-}
-
-// Reads values by at most seven lookups where none can pass the layout's end: each has nine values at most, and 63 are left.
-fn read_many_lookups(
-    plane: &mut [i32],
-    layout: Layout,
-    from: usize,
-    window: u64,
-    table: &[u16; 256],
-    small: &[i32; 32],
-) -> Batch
-    requires { ⌜ (from + 63 ≤ layout .count) × Ready layout from (now plane) × KnowsCodes (now table) ⌝ }
-    ensures { λ r. ⌜
-        (from + r .count ≤ layout .count)
-        × ReadsAhead window (now (small .entry)) (indexOf layout) from (now (plane .entry)) r (now (plane .exit))
-        ⌝ }
-{
     let mut w = window;
     let mut i = from;
     let mut bits = 0;
@@ -258,10 +235,7 @@ fn read_codes(
     small: &[i32; 32],
 ) -> Batch
     requires { ⌜ (layout .count ≤ from + 7) × Ready layout from (now plane) × KnowsCodes (now table) ⌝ }
-    ensures { λ r. ⌜
-        (from + r .count ≤ layout .count)
-        × ReadsAhead window (now (small .entry)) (indexOf layout) from (now (plane .entry)) r (now (plane .exit))
-        ⌝ }
+    ensures { λ r. ⌜ ReadsWithin window (now (small .entry)) layout from (now (plane .entry)) r (now (plane .exit)) ⌝ }
 {
     let mut w = window;
     let mut i = from;
@@ -298,10 +272,7 @@ fn read_lookups(
     small: &[i32; 32],
 ) -> Batch
     requires { ⌜ Ready layout from (now plane) × KnowsCodes (now table) ⌝ }
-    ensures { λ r. ⌜
-        (from + r .count ≤ layout .count)
-        × ReadsAhead window (now (small .entry)) (indexOf layout) from (now (plane .entry)) r (now (plane .exit))
-        ⌝ }
+    ensures { λ r. ⌜ ReadsWithin window (now (small .entry)) layout from (now (plane .entry)) r (now (plane .exit)) ⌝ }
 {
     let mut w = window;
     let mut i = from;
