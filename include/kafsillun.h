@@ -9,7 +9,7 @@
  *
  *   - Any values of the parameters, any bytes and any lengths are allowed. What is out of range is refused, with a status.
  *   - It returns always, calls nothing back, allocates nothing and keeps nothing between calls, so it can be called from several threads
- *     at once. It reads and writes only what it is passed. It needs some 64 KiB of stack, whatever the size of the component.
+ *     at once. It reads and writes only what it is passed. It needs some 32 KiB of stack, whatever the size of the component.
  *   - Bytes and planes are passed as a pointer and a length, which counts entries. As of C's own functions, the pointer must be
  *     aligned for its type and that many entries may be read, and written where the pointer is not to const. A plane that is written
  *     overlaps nothing else that is passed. The pointer of an empty plane or of no bytes may be any, NULL too.

@@ -173,7 +173,7 @@ static void *synthesise_in_thread(void *argument)
     return NULL;
 }
 
-/* Four threads at once, each with a stack of 80 KiB. */
+/* Four threads at once, each with a stack of 48 KiB. */
 static void threads_agree(void *(*job)(void *), const char *what)
 {
     enum { THREADS = 4 };
@@ -189,7 +189,7 @@ static void threads_agree(void *(*job)(void *), const char *what)
         expect_answer(synthesise_from(turns[i].number, turns[i].samples), 0, 0, what);
     }
     pthread_attr_init(&attributes);
-    pthread_attr_setstacksize(&attributes, 80 * 1024);
+    pthread_attr_setstacksize(&attributes, 48 * 1024);
     for (i = 0; i < THREADS; i++) {
         if (pthread_create(&threads[i], &attributes, job, &turns[i]) != 0) {
             break;

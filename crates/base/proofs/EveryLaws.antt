@@ -1,8 +1,8 @@
--- The laws of `allBelow`: one more test, and from the test of all to each and back.
+-- The laws of `allBelow`: one more test, from the test of all to each and back, and a part of the tests.
 -- Assumes nothing.
 use mathlib.Core.Path.{_≡_, refl, ap}
 use mathlib.Core.Bool.{Bool, true, false, _&&_}
-use Prim.Native.Nat.{ℕ, zero, suc, _+_, _<_}
+use Prim.Native.Nat.{ℕ, zero, suc, _+_, _-_, _≤_, _<_}
 use native.Mathlib.Numerals.{add-one}
 use native.Mathlib.Decide.{decLt}
 use native.Mathlib.Omega.{arith}
@@ -50,3 +50,18 @@ pub all-same : (test₁ test₂ : ℕ → Bool) (n : ℕ) → ((k : ℕ) → k <
 unfolding allBelow
 all-same test₁ test₂ zero same = refl
 all-same test₁ test₂ (suc n) same = rw (all-same test₁ test₂ n (λ k h. same k (omega arith)), same n (omega arith))
+
+-- the tests of a part, from a number on; and those before it with them
+pub all-part : (test : ℕ → Bool) (n a m : ℕ) → allBelow n test ≡ true → a + m ≤ n → allBelow m (λ k. test (a + k)) ≡ true
+all-part test n a m all inside = all-from (λ k. test (a + k)) m (λ k h. all-at test n (a + k) all (omega arith))
+
+pub all-append : (test : ℕ → Bool) (a m : ℕ) → allBelow a test ≡ true → allBelow m (λ k. test (a + k)) ≡ true → allBelow (a + m) test ≡ true
+all-append test a m first rest =
+    all-from test (a + m)
+    (λ k h.
+    elim (decLt k a) [
+      | yes before ↦ all-at test a k first before
+      | no later ↦
+          let on : a + (k - a) ≡ k = omega arith in
+          rw on at (all-at (λ j. test (a + j)) m (k - a) rest (omega arith))
+    ])

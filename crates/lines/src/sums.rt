@@ -11,7 +11,7 @@ use base::signed;
 
 // Sums the taps of a line, each from its own start in the source on.
 pub fn sum_taps(
-    sums: &mut [i64; 4096],
+    sums: &mut [i64; 256],
     source: &[i32],
     width: usize,
     taps: &[i64; 8],
@@ -19,7 +19,7 @@ pub fn sum_taps(
     count: usize,
     round: i64,
 )
-    requires { ⌜ (width ≤ 4096) × (count ≤ 8) × (natAbs round ≤ 2 ^ 44) ⌝ }
+    requires { ⌜ (width ≤ 256) × (count ≤ 8) × (natAbs round ≤ 2 ^ 44) ⌝ }
     requires { ⌜ TapsFit (now taps) (now starts) count (now source) width ⌝ }
     ensures summed { λ _. ⌜
         ((x : ℕ) → x < width → numberAt (now (sums .exit)) x
@@ -48,8 +48,8 @@ fn start_sums(sums: &mut [i64], width: usize, round: i64)
 }
 
 // Adds a tap to the sums of a line: its factor times the numbers from an index of the source on.
-fn add_tap(sums: &mut [i64; 4096], source: &[i32], start: usize, width: usize, tap: i64)
-    requires { ⌜ (width ≤ 4096) × (start + width ≤ length (now source)) ⌝ }
+fn add_tap(sums: &mut [i64; 256], source: &[i32], start: usize, width: usize, tap: i64)
+    requires { ⌜ (width ≤ 256) × (start + width ≤ length (now source)) ⌝ }
     requires { ⌜ (natAbs tap ≤ 2 ^ 13) × Below (now sums) width (2 ^ 60) ⌝ }
     ensures summed { λ _. ⌜
         now (sums .exit) ≡ fill (now (sums .entry)) 0 width
@@ -69,12 +69,12 @@ fn add_tap(sums: &mut [i64; 4096], source: &[i32], start: usize, width: usize, t
 pub fn lift_line(
     line: &mut [i32],
     start: usize,
-    sums: &[i64; 4096],
+    sums: &[i64; 256],
     width: usize,
     scale: u32,
     adds: bool,
 ) -> bool
-    requires { ⌜ (width ≤ 4096) × (start + width ≤ length (now line)) × (scale < 64) ⌝ }
+    requires { ⌜ (width ≤ 256) × (start + width ≤ length (now line)) × (scale < 64) ⌝ }
     requires { ⌜ Below (now sums) width (2 ^ 48) ⌝ }
     ensures told { λ r. ⌜ r ≡ lineFits adds scale (now (line .entry)) start width (numberAt (now (sums .entry))) ⌝ }
     ensures done { λ r. ⌜

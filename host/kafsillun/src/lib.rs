@@ -39,7 +39,7 @@
 //!
 //! This is about the planes a job may write: [`synthesise`] never changes the coefficients.
 //!
-//! The library has no state, so threads may run jobs at once. A job needs some 64 KiB of stack.
+//! The library has no state, so threads may run jobs at once. A job needs some 32 KiB of stack.
 
 #![warn(missing_docs)]
 
