@@ -23,5 +23,5 @@ pub use check::{
     check, proved, proved_parameters, reference, results, Answers, Buffers, Decoder, Difference,
     Job, Outcome,
 };
-pub use planes::{safe_size, PlaneKind};
+pub use planes::{plane_of_kind, safe_size, PlaneKind};
 pub use statistics::Statistics;

@@ -2,7 +2,10 @@
 
 use compare::round_trip::{RoundTrip, RoundTrips};
 use compare::work::Work;
-use compare::{check, proved, Case, Kind, Statistics};
+use compare::{check, plane_of_kind, proved, Case, Kind, PlaneKind, Statistics};
+use reference::params::padded_area;
+use vectors::pieces;
+use vectors::random::Random;
 
 /// So many seeds from 1 on.
 fn seeds(count: u64) -> Work {
@@ -57,4 +60,40 @@ fn bodies_cut_at_every_byte_are_alike() {
             break;
         }
     }
+}
+
+/// A line that is lifted exactly is lifted in parts of 256 numbers, and a sweep takes eight pairs of rows at
+/// a turn: rows, and halves of rows, about one part, two and four, in pictures of up to three turns.
+#[test]
+fn wide_pictures_of_large_numbers_are_alike() {
+    const KINDS: [PlaneKind; 3] = [
+        PlaneKind::ManyBits,
+        PlaneKind::ExtremeLevel,
+        PlaneKind::Brink,
+    ];
+    let random = &mut Random::new(1);
+    let mut answers = [0; 2];
+    for width in [255, 256, 257, 511, 512, 513, 514, 1023, 1024, 1025, 1026] {
+        for height in [2, 15, 16, 17, 34] {
+            for wavelet in 0..=6 {
+                let p = pieces::plain(width, height, 1, wavelet, false);
+                let kind = random.pick(&KINDS);
+                let case = Case {
+                    parameters: p.clone(),
+                    bytes: Vec::new(),
+                    coefficients: plane_of_kind(random, kind, &p),
+                    plane_kind: kind,
+                    work_length: padded_area(&p),
+                    samples_length: (width * height) as usize,
+                    ..Case::from_seed(1)
+                };
+                match check(&case, proved) {
+                    Ok([_, synthesised, _]) => answers[usize::from(synthesised.status == 10)] += 1,
+                    Err(difference) => panic!("{p:?}, {kind:?}: {difference}"),
+                }
+            }
+        }
+    }
+    let [accepted, refused] = answers;
+    assert!(accepted > 80 && refused > 80, "{answers:?}");
 }
