@@ -36,16 +36,20 @@ levels-at t = and 4 levels-kinds.ps (is 4 levels-kinds.ps μ-levels t) levels.Pr
 abbrev levels-below : ℕ → In 4 levels-kinds.ps
 levels-below t = and 4 levels-kinds.ps (falls 4 levels-kinds.ps _<_ μ-levels t) levels.Pre
 
+-- what the functions that it calls ask and tell
+abbrev calls : ℕ → levels-lts.Claims
+calls t = (
+  put-low-band-reads.Asked,
+  put-low-band-reads.Learnt,
+  levels-below t,
+  levels.Post,
+  synthesise-level-reads.Asked,
+  synthesise-level-reads.Learnt,
+)
+
 module _ (t : ℕ) where
   abbrev Entry : Type 0
-  Entry = levels-lts.Start (
-    put-low-band-reads.Asked,
-    put-low-band-reads.Learnt,
-    levels-below t,
-    levels.Post,
-    synthesise-level-reads.Asked,
-    synthesise-level-reads.Learnt,
-  ) (levels-at t) levels.Post
+  Entry = levels-lts.Start (calls t) (levels-at t) levels.Post
 
   -- what the contract speaks of, from the function's entry
   module _ (c : Entry) where
@@ -107,99 +111,36 @@ module _ (t : ℕ) where
         cleared = λ here. stands .cleared here ∙ zeros-length rest (now (c .args .work)) long;
       })
 
-  put-low-band-requires : levels-lts.Need-put-low-band-requires (
-    put-low-band-reads.Asked,
-    put-low-band-reads.Learnt,
-    levels-below t,
-    levels.Post,
-    synthesise-level-reads.Asked,
-    synthesise-level-reads.Learnt,
-  ) (levels-at t) levels.Post
+  put-low-band-requires : levels-lts.Need-put-low-band-requires (calls t) (levels-at t) levels.Post
   put-low-band-requires c κs = c .before .before .before .pre .1 .0
 
-  same-length : levels-lts.Need-same-length (
-    put-low-band-reads.Asked,
-    put-low-band-reads.Learnt,
-    levels-below t,
-    levels.Post,
-    synthesise-level-reads.Asked,
-    synthesise-level-reads.Learnt,
-  ) (levels-at t) levels.Post
+  same-length : levels-lts.Need-same-length (calls t) (levels-at t) levels.Post
   same-length c = c .before .before .put-low-band .kept .0
 
-  same-length-2 : levels-lts.Need-same-length-2 (
-    put-low-band-reads.Asked,
-    put-low-band-reads.Learnt,
-    levels-below t,
-    levels.Post,
-    synthesise-level-reads.Asked,
-    synthesise-level-reads.Learnt,
-  ) (levels-at t) levels.Post
+  same-length-2 : levels-lts.Need-same-length-2 (calls t) (levels-at t) levels.Post
   same-length-2 c = c .before .before .put-low-band .kept .1 .0
 
-  returns : levels-lts.Need-returns (
-    put-low-band-reads.Asked,
-    put-low-band-reads.Learnt,
-    levels-below t,
-    levels.Post,
-    synthesise-level-reads.Asked,
-    synthesise-level-reads.Learnt,
-  ) (levels-at t) levels.Post
+  returns : levels-lts.Need-returns (calls t) (levels-at t) levels.Post
   unfolding firstBadLevel synthesis
   returns c =
       let none = c .before .before .before .before .before .if1 .taken in
       (rw none refl, λ e. rw none (c .before .before .put-low-band .ensures))
 
-  sub-below : levels-lts.Need-sub-below (
-    put-low-band-reads.Asked,
-    put-low-band-reads.Learnt,
-    levels-below t,
-    levels.Post,
-    synthesise-level-reads.Asked,
-    synthesise-level-reads.Learnt,
-  ) (levels-at t) levels.Post
+  sub-below : levels-lts.Need-sub-below (calls t) (levels-at t) levels.Post
   sub-below c = omega arith
 
-  synthesise-levels-requires : levels-lts.Need-synthesise-levels-requires (
-    put-low-band-reads.Asked,
-    put-low-band-reads.Learnt,
-    levels-below t,
-    levels.Post,
-    synthesise-level-reads.Asked,
-    synthesise-level-reads.Learnt,
-  ) (levels-at t) levels.Post
+  synthesise-levels-requires : levels-lts.Need-synthesise-levels-requires (calls t) (levels-at t) levels.Post
   synthesise-levels-requires c κs =
       let start = c .before .before .before .before in
       (omega (arith, start .pre .0), (start .pre .1 .0, (start .pre .1 .1 .0, omega (arith, start .pre .1 .1 .1))))
 
-  same-length-3 : levels-lts.Need-same-length-3 (
-    put-low-band-reads.Asked,
-    put-low-band-reads.Learnt,
-    levels-below t,
-    levels.Post,
-    synthesise-level-reads.Asked,
-    synthesise-level-reads.Learnt,
-  ) (levels-at t) levels.Post
+  same-length-3 : levels-lts.Need-same-length-3 (calls t) (levels-at t) levels.Post
   same-length-3 c = c .before .before .before .synthesise-levels .kept .0
 
-  same-length-4 : levels-lts.Need-same-length-4 (
-    put-low-band-reads.Asked,
-    put-low-band-reads.Learnt,
-    levels-below t,
-    levels.Post,
-    synthesise-level-reads.Asked,
-    synthesise-level-reads.Learnt,
-  ) (levels-at t) levels.Post
+  same-length-4 : levels-lts.Need-same-length-4 (calls t) (levels-at t) levels.Post
   same-length-4 c = c .before .before .before .synthesise-levels .kept .1 .0
 
-  returns-2 : levels-lts.Need-returns-2 (
-    put-low-band-reads.Asked,
-    put-low-band-reads.Learnt,
-    levels-below t,
-    levels.Post,
-    synthesise-level-reads.Asked,
-    synthesise-level-reads.Learnt,
-  ) (levels-at t) levels.Post
+  returns-2 : levels-lts.Need-returns-2 (calls t) (levels-at t) levels.Post
   returns-2 c =
       let start = c .before .before .before .before .before .before .before .before in
       let g = start .pre .1 .0 .0 in
@@ -212,14 +153,7 @@ module _ (t : ℕ) where
         λ e. absurd (some e),
       )
 
-  synthesise-level-requires : levels-lts.Need-synthesise-level-requires (
-    put-low-band-reads.Asked,
-    put-low-band-reads.Learnt,
-    levels-below t,
-    levels.Post,
-    synthesise-level-reads.Asked,
-    synthesise-level-reads.Learnt,
-  ) (levels-at t) levels.Post
+  synthesise-level-requires : levels-lts.Need-synthesise-level-requires (calls t) (levels-at t) levels.Post
   synthesise-level-requires c κs =
       let start = c .before .before .before .before .before .before .before .before .before .before .before in
       let rest = c .before .before .before .before .before .before .synthesise-levels in (
@@ -231,101 +165,64 @@ module _ (t : ℕ) where
         (start .pre .1 .1 .0, omega (arith, start .pre .1 .1 .1, c .before .before .before .before .before .before .before .before .before .before .if1 .left)),
       )
 
-  same-length-5 : levels-lts.Need-same-length-5 (
-    put-low-band-reads.Asked,
-    put-low-band-reads.Learnt,
-    levels-below t,
-    levels.Post,
-    synthesise-level-reads.Asked,
-    synthesise-level-reads.Learnt,
-  ) (levels-at t) levels.Post
+  same-length-5 : levels-lts.Need-same-length-5 (calls t) (levels-at t) levels.Post
   same-length-5 c = c .before .before .before .synthesise-level .kept .0 ∙ c .before .before .before .before .before .before .before .before .before .before .synthesise-levels .kept .0
 
-  same-length-6 : levels-lts.Need-same-length-6 (
-    put-low-band-reads.Asked,
-    put-low-band-reads.Learnt,
-    levels-below t,
-    levels.Post,
-    synthesise-level-reads.Asked,
-    synthesise-level-reads.Learnt,
-  ) (levels-at t) levels.Post
+  same-length-6 : levels-lts.Need-same-length-6 (calls t) (levels-at t) levels.Post
   same-length-6 c = c .before .before .before .synthesise-level .kept .1 .0 ∙ c .before .before .before .before .before .before .before .before .before .before .synthesise-levels .kept .1 .0
 
-  returns-3 : levels-lts.Need-returns-3 (
-    put-low-band-reads.Asked,
-    put-low-band-reads.Learnt,
-    levels-below t,
-    levels.Post,
-    synthesise-level-reads.Asked,
-    synthesise-level-reads.Learnt,
-  ) (levels-at t) levels.Post
+  -- Once the level is built, or is found not to fit.
+  module _ (c : levels-lts.After-samples3 (calls t) (levels-at t) levels.Post) where
+    abbrev entry : Entry
+    entry = c .before .before .before .before .before .before .before .before .before .before .before .before .before .before
+
+    abbrev called : levels-lts.After-synthesise-levels (calls t) (levels-at t) levels.Post
+    called = c .before .before .before .before .before .before .before .before .before
+
+    up : suc (below entry) ≡ entry .args .n
+    up = omega (arith, c .before .before .before .before .before .before .before .before .before .before .before .before .before .if1 .left)
+
+    good-below : 0 ≡ first-bad entry (below entry)
+    good-below = sym (c .before .before .before .before .before .before .if2 .left) ∙ called .synthesise-levels .ensures .0
+
+    stood : Stands (entry .args .extent) (below entry) (picture entry (below entry)) (now (entry .args .work)) (called .synthesise-levels .last .0) (called .synthesise-levels .last .1 .0)
+    stood = called .synthesise-levels .ensures .1 (c .before .before .before .before .before .before .if2 .left)
+
+    told : c .before .before .synthesise-level .result ≡ levelFits (filter entry) (rows entry) (columns entry) (coefficients entry) (below entry)
+    told = c .before .before .synthesise-level .ensures .0 ∙ level-test entry up (called .synthesise-levels .last .0) (called .synthesise-levels .last .1 .0) stood
+
+  returns-3 : levels-lts.Need-returns-3 (calls t) (levels-at t) levels.Post
   returns-3 c =
-      let start = c .before .before .before .before .before .before .before .before .before .before .before .before .before .before .before in
+      let after = c .before in
+      let start = entry after in
       let g = start .pre .1 .0 .0 in
-      let up : suc (below start) ≡ start .args .n = omega (arith, c .before .before .before .before .before .before .before .before .before .before .before .before .before .before .if1 .left) in
-      let rest = c .before .before .before .before .before .before .before .before .before .before .synthesise-levels in
-      let level = c .before .before .before .synthesise-level in
-      let none = c .before .before .before .before .before .before .before .if2 .left in
-      let stood = rest .ensures .1 none in
-      let fits = level-test start up (rest .last .0) (rest .last .1 .0) stood in (
-        subst (λ (k : ℕ). 0 ≡ first-bad start k) up
-            (bad-none (filter start) (rows start) (columns start) (g .rows-least) (g .columns-least) (coefficients start) (below start) (sym (rest .ensures .0) ∙ none)
-            (sym fits ∙ sym (level .ensures .0) ∙ c .if3 .taken)),
-        λ e. next-stands start up (rest .last .0) (level .last .0) (rest .last .1 .0) stood (rest .kept .0) (level .last .1 .0) (level .ensures .1 (c .if3 .taken)),
+      let rest = called after .synthesise-levels in
+      let level = after .before .before .synthesise-level in (
+        subst (λ (k : ℕ). 0 ≡ first-bad start k) (up after)
+            (bad-none (filter start) (rows start) (columns start) (g .rows-least) (g .columns-least) (coefficients start) (below start) (sym (good-below after))
+            (sym (told after) ∙ c .if3 .taken)),
+        λ e. next-stands start (up after) (rest .last .0) (level .last .0) (rest .last .1 .0) (stood after) (rest .kept .0) (level .last .1 .0) (level .ensures .1 (c .if3 .taken)),
       )
 
-  same-length-7 : levels-lts.Need-same-length-7 (
-    put-low-band-reads.Asked,
-    put-low-band-reads.Learnt,
-    levels-below t,
-    levels.Post,
-    synthesise-level-reads.Asked,
-    synthesise-level-reads.Learnt,
-  ) (levels-at t) levels.Post
+  same-length-7 : levels-lts.Need-same-length-7 (calls t) (levels-at t) levels.Post
   same-length-7 c = c .before .before .before .synthesise-level .kept .0 ∙ c .before .before .before .before .before .before .before .before .before .before .synthesise-levels .kept .0
 
-  same-length-8 : levels-lts.Need-same-length-8 (
-    put-low-band-reads.Asked,
-    put-low-band-reads.Learnt,
-    levels-below t,
-    levels.Post,
-    synthesise-level-reads.Asked,
-    synthesise-level-reads.Learnt,
-  ) (levels-at t) levels.Post
+  same-length-8 : levels-lts.Need-same-length-8 (calls t) (levels-at t) levels.Post
   same-length-8 c = c .before .before .before .synthesise-level .kept .1 .0 ∙ c .before .before .before .before .before .before .before .before .before .before .synthesise-levels .kept .1 .0
 
-  returns-4 : levels-lts.Need-returns-4 (
-    put-low-band-reads.Asked,
-    put-low-band-reads.Learnt,
-    levels-below t,
-    levels.Post,
-    synthesise-level-reads.Asked,
-    synthesise-level-reads.Learnt,
-  ) (levels-at t) levels.Post
+  returns-4 : levels-lts.Need-returns-4 (calls t) (levels-at t) levels.Post
   returns-4 c =
-      let start = c .before .before .before .before .before .before .before .before .before .before .before .before .before .before .before in
-      let g = start .pre .1 .0 .0 in
-      let up : suc (below start) ≡ start .args .n = omega (arith, c .before .before .before .before .before .before .before .before .before .before .before .before .before .before .if1 .left) in
-      let rest = c .before .before .before .before .before .before .before .before .before .before .synthesise-levels in
-      let level = c .before .before .before .synthesise-level in
-      let none = c .before .before .before .before .before .before .before .if2 .left in
-      let stood = rest .ensures .1 none in
-      let fits = level-test start up (rest .last .0) (rest .last .1 .0) stood in (
-        subst (λ (k : ℕ). k ≡ first-bad start k) up
-            (bad-here (filter start) (rows start) (columns start) (g .rows-least) (g .columns-least) (coefficients start) (below start) (sym (rest .ensures .0) ∙ none)
-            (sym fits ∙ sym (level .ensures .0) ∙ c .if3 .left)),
-        λ e. absurd (c .before .before .before .before .before .before .before .before .before .before .before .before .before .before .if1 .left e),
+      let after = c .before in
+      let start = entry after in
+      let g = start .pre .1 .0 .0 in (
+        subst (λ (k : ℕ). k ≡ first-bad start k) (up after)
+            (bad-here (filter start) (rows start) (columns start) (g .rows-least) (g .columns-least) (coefficients start) (below start) (sym (good-below after))
+            (sym (told after) ∙ c .if3 .left)),
+        λ e. absurd (after .before .before .before .before .before .before .before .before .before .before .before .before .before .if1 .left e),
       )
 
 pub +synthesise-levels-spec : {M : Type 1} → statement M
-+synthesise-levels-spec = close μ-levels λ t. levels-lts.spec (
-  put-low-band-reads.Asked,
-  put-low-band-reads.Learnt,
-  levels-below t,
-  levels.Post,
-  synthesise-level-reads.Asked,
-  synthesise-level-reads.Learnt,
-) (levels-at t) levels.Post
++synthesise-levels-spec = close μ-levels λ t. levels-lts.spec (calls t) (levels-at t) levels.Post
     (put-low-band-requires t)
     (same-length t)
     (same-length-2 t)
