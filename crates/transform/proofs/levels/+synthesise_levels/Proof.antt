@@ -173,28 +173,28 @@ module _ (t : ℕ) where
 
   -- Once the level is built, or is found not to fit.
   module _ (c : levels-lts.After-samples3 (calls t) (levels-at t) levels.Post) where
-    abbrev entry : Entry
-    entry = c .before .before .before .before .before .before .before .before .before .before .before .before .before .before
+    abbrev given : Entry
+    given = c .before .before .before .before .before .before .before .before .before .before .before .before .before .before
 
     abbrev called : levels-lts.After-synthesise-levels (calls t) (levels-at t) levels.Post
     called = c .before .before .before .before .before .before .before .before .before
 
-    up : suc (below entry) ≡ entry .args .n
+    up : suc (below given) ≡ given .args .n
     up = omega (arith, c .before .before .before .before .before .before .before .before .before .before .before .before .before .if1 .left)
 
-    good-below : 0 ≡ first-bad entry (below entry)
+    good-below : 0 ≡ first-bad given (below given)
     good-below = sym (c .before .before .before .before .before .before .if2 .left) ∙ called .synthesise-levels .ensures .0
 
-    stood : Stands (entry .args .extent) (below entry) (picture entry (below entry)) (now (entry .args .work)) (called .synthesise-levels .last .0) (called .synthesise-levels .last .1 .0)
+    stood : Stands (given .args .extent) (below given) (picture given (below given)) (now (given .args .work)) (called .synthesise-levels .last .0) (called .synthesise-levels .last .1 .0)
     stood = called .synthesise-levels .ensures .1 (c .before .before .before .before .before .before .if2 .left)
 
-    told : c .before .before .synthesise-level .result ≡ levelFits (filter entry) (rows entry) (columns entry) (coefficients entry) (below entry)
-    told = c .before .before .synthesise-level .ensures .0 ∙ level-test entry up (called .synthesise-levels .last .0) (called .synthesise-levels .last .1 .0) stood
+    told : c .before .before .synthesise-level .result ≡ levelFits (filter given) (rows given) (columns given) (coefficients given) (below given)
+    told = c .before .before .synthesise-level .ensures .0 ∙ level-test given up (called .synthesise-levels .last .0) (called .synthesise-levels .last .1 .0) stood
 
   returns-3 : levels-lts.Need-returns-3 (calls t) (levels-at t) levels.Post
   returns-3 c =
       let after = c .before in
-      let start = entry after in
+      let start = given after in
       let g = start .pre .1 .0 .0 in
       let rest = called after .synthesise-levels in
       let level = after .before .before .synthesise-level in (
@@ -213,7 +213,7 @@ module _ (t : ℕ) where
   returns-4 : levels-lts.Need-returns-4 (calls t) (levels-at t) levels.Post
   returns-4 c =
       let after = c .before in
-      let start = entry after in
+      let start = given after in
       let g = start .pre .1 .0 .0 in (
         subst (λ (k : ℕ). k ≡ first-bad start k) (up after)
             (bad-here (filter start) (rows start) (columns start) (g .rows-least) (g .columns-least) (coefficients start) (below start) (sym (good-below after))
