@@ -15,7 +15,7 @@ use component::parameters::Parameters;
 pub const FILE_MOST: usize = 65536;
 
 // The most entries that a recording has.
-pub const ENTRIES_MOST: usize = 16;
+const ENTRIES_MOST: usize = 16;
 
 // How many bytes of the table an entry takes.
 const ENTRY_SIZE: usize = 26;

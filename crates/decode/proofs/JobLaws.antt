@@ -19,10 +19,10 @@ use Rattle.component.specs.declared.parameters.Answer.{Answer}
 use Rattle.component.specs.declared.parameters.Job.the-variants.{Unpack, Synthesise, Decode}
 use Rattle.component.proofs.ChecksLaws.{passed, refused-none}
 use Rattle.unpack.specs.Job.{UnpackResult, unpacked, outcome as unpackOutcome}
-use Rattle.unpack.proofs.JobLaws.{refused-zeros}
-use Rattle.transform.specs.Job.{SynthesisResult, synthesised, outcome as synthesisOutcome}
+use Rattle.unpack.proofs.JobLaws.{plane-free, refused-zeros}
+use Rattle.transform.specs.Job.{SynthesisResult, synthesised, outcome as synthesisOutcome, unchanged as synthesisUnchanged}
 use Rattle.decode.specs.Job.{DecodeResult, outcome, unchanged, zeroed, accepted, unpackedAndSynthesised, decoded}
-use Rattle.transform.proofs.JobLaws.{refused-zeros as synthesis-zeros}
+use Rattle.transform.proofs.JobLaws.{refused-zeros as synthesis-zeros, planes-free as synthesis-planes-free, job-refused as synthesis-refused}
 
 module _ (p : Parameters) (bytes : List ℕ) (coefficients work samples : List ℤ) where
   abbrev status : ℕ
@@ -55,6 +55,21 @@ module _ (p : Parameters) (bytes : List ℕ) (coefficients work samples : List �
     synthesise-passes after same =
         let all = passed Decode p _ none in
         sym (refused-none Synthesise p _ (all .sizes-pass) (all .depth-passes) (all .wavelet-passes) refl (rw same (all .planes-pass)))
+
+    -- so what stood in the planes does not matter
+    pub planes-free : (c w s : List ℤ) → length c ≡ length coefficients → length w ≡ length work → length s ≡ length samples →
+        decoded p bytes c w s ≡ decoded p bytes coefficients work samples
+    unfolding decoded unpackedAndSynthesised zeroed synthesisUnchanged
+    planes-free c w s same-c same-w same-s =
+        let u = unpacked p bytes coefficients in
+        let checks = refusalOf Synthesise p (lengthsOf (u .coefficients) work samples) in
+        rw (same-c, same-w, same-s, eq-eqb status 0 none, plane-free p bytes coefficients c same-c unpack-passes, zeros-length c coefficients same-c, zeros-length w work same-w, zeros-length s samples same-s)
+        (elim (ℕ-discrete checks 0) [
+          | yes passes ↦ rw (synthesis-planes-free p (u .coefficients) work samples w s same-w same-s passes) refl
+          | no fails ↦
+              let fails-too : refusalOf Synthesise p (lengthsOf (u .coefficients) w s) ≢ 0 = rw (same-w, same-s) fails in
+              rw (synthesis-refused p (u .coefficients) w s fails-too, synthesis-refused p (u .coefficients) work samples fails, same-w, same-s, ne-eqb checks 0 fails) refl
+        ])
 
     -- what unpack answered and left in the coefficients
     module _ (u : Answer) (after : List ℤ) (told : unpackOutcome u after ≡ unpacked p bytes coefficients) (same : length after ≡ length coefficients) where

@@ -2,14 +2,15 @@
 mod input;
 
 use crate::input::read_all;
+use contents::table::entry_count;
 use libc::STDERR_FILENO;
 use libc::STDIN_FILENO;
 use libc::STDOUT_FILENO;
 use recording::AREA_MOST;
 use recording::FILE_ROOM;
-use recording::PARTS_MOST;
 use recording::TEXT_ROOM;
 use recording::output_part;
+use recording::part_count;
 
 // The first argument names the file; with none, the recording is the standard input.
 fn main() {
@@ -80,10 +81,13 @@ fn write_output(file: &[u8]) {
     let mut work = [0i32; AREA_MOST];
     let mut samples = [0i32; AREA_MOST];
     let mut text = [0u8; TEXT_ROOM];
+    let entries = entry_count(file);
+    let parts = part_count(entries);
     let mut k = 0;
-    while k < PARTS_MOST {
+    while k < parts {
         let count = output_part(
             file,
+            entries,
             k,
             &mut coefficients,
             &mut work,
@@ -117,6 +121,10 @@ fn write_usage(fd: i32) {
     );
     io::write_all(
         fd,
-        b"by which number and at which place it is refused. Only `refused 11`: a wrong table.\n",
+        b"by which number and at which place it is refused. 12: bytes of its body are left over,\n",
+    );
+    io::write_all(
+        fd,
+        b"and the place is how many were used. Only `refused 11`: a wrong table.\n",
     );
 }

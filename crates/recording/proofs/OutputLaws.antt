@@ -1,25 +1,26 @@
 -- Laws of the output: the planes of an entry, what decode gives for it, and texts one after the other.
 -- Assumes nothing.
-use mathlib.Core.Path.{_≡_, refl, ap}
+use mathlib.Core.Path.{_≡_, refl, sym, ap, _∙_}
+use mathlib.Core.Logic.{_≢_}
 use mathlib.Core.Bool.{true}
-use mathlib.Core.List.{List, [], append-nil}
+use mathlib.Core.List.{List}
 use Prim.Native.Nat.{ℕ, zero, suc, _*_, _≤_, _<_}
 use native.Mathlib.Decide.{ℕ-discrete}
 use native.Mathlib.Omega.{arith}
 use lib.IntN.{ℤ}
-use lib.ListN.{length}
-use Rattle.base.specs.Lists.{zerosLike}
+use lib.ListN.{length, length-replicate}
+use borrow.Author.Tests.{ne-eqb}
 use Rattle.base.proofs.Booleans.{cond-most}
-use Rattle.component.specs.Checks.{areaOf, planesFit, lengthsOf, sizesInRange, depthInRange}
+use Rattle.component.specs.Checks.{areaOf, planesFit, refusalOf, lengthsOf, sizesInRange, depthInRange}
 use Rattle.component.specs.declared.parameters.Parameters.{Parameters}
 use Rattle.component.specs.declared.parameters.Answer.{Answer}
 use Rattle.component.specs.declared.parameters.Job.the-variants.{Decode}
 use Rattle.component.proofs.ChecksLaws.{passed, height-most, samples-fewer, within-sizes, within-depth, within-area}
-use Rattle.decode.specs.Job.{DecodeResult, outcome, decoded}
-use Rattle.decode.proofs.JobLaws.{accepted-checked}
+use Rattle.decode.specs.Job.{DecodeResult, outcome, unchanged, decoded}
+use Rattle.decode.proofs.JobLaws.{refused-by-check, accepted-checked, planes-free}
 use Rattle.contents.specs.Table.{entryAt, body}
 use Rattle.contents.specs.declared.table.Entry.{Entry}
-use Rattle.recording.specs.Output.{fitsProgram, planeLength, sampleLength, entryDecoded, entryLines, resultLines, entryText, joined}
+use Rattle.recording.specs.Output.{fitsProgram, planeLength, sampleLength, entryDecoded, entryStatus, entryLines, resultLines, bodyLines, entryText, joined}
 use Rattle.transform.proofs.JobLaws.{Fitted, planes-fitted}
 
 module _ (p : Parameters) where
@@ -44,6 +45,20 @@ module _ (p : Parameters) where
   pub sample-most : sampleLength p ≤ 16384
   sample-most = cond-most (fitsProgram p) (p .width * p .height) 16384 (λ fits. omega (arith, samples-fewer p, fits-area fits))
 
+-- what decode refuses keeps its number
+module _ (status place size : ℕ) where
+  pub refusal-kept : status ≢ 0 → entryStatus status place size ≡ status
+  unfolding entryStatus
+  refusal-kept some = rw (ne-eqb status 0 some)
+
+  -- so what is accepted was accepted by decode
+  pub entry-accepted : entryStatus status place size ≡ 0 → status ≡ 0
+  entry-accepted fine =
+      elim (ℕ-discrete status 0) [
+        | yes none ↦ none
+        | no some ↦ sym (refusal-kept some) ∙ fine
+      ]
+
 module _ (p : Parameters) (bytes : List ℕ) (coefficients work samples : List ℤ) where
   -- an accepted entry's planes have the lengths that it needs
   fits : decoded p bytes coefficients work samples .status ≡ 0 → Fitted p (lengthsOf coefficients work samples)
@@ -60,25 +75,36 @@ module _ (p : Parameters) (bytes : List ℕ) (coefficients work samples : List �
     height-most p (passed Decode p _ (accepted-checked p bytes coefficients work samples fine) .sizes-pass),
   )
 
-  -- over zeroed planes decode gives what the entry's lines tell
-  pub entry-decoded :
-      (c w s : List ℤ) → length c ≡ planeLength p → length w ≡ planeLength p → length s ≡ sampleLength p
-      → coefficients ≡ zerosLike c → work ≡ zerosLike w → samples ≡ zerosLike s
-      → decoded p bytes coefficients work samples ≡ entryDecoded p bytes
-  unfolding entryDecoded zerosLike
-  entry-decoded c w s lc lw ls ec ew es = rw (ec, ew, es, lc, lw, ls) refl
+  -- what stood in the planes does not matter to an entry's lines
+  lines-free : (k : ℕ) (c w s : List ℤ) → length c ≡ length coefficients → length w ≡ length work → length s ≡ length samples →
+      resultLines k p (length bytes) (decoded p bytes c w s) ≡ resultLines k p (length bytes) (decoded p bytes coefficients work samples)
+  unfolding entryLines unchanged
+  lines-free k c w s same-c same-w same-s =
+      let status = refusalOf Decode p (lengthsOf coefficients work samples) in
+      elim (ℕ-discrete status 0) [
+        | yes none ↦
+            ap (λ (d : DecodeResult). resultLines k p (length bytes) d)
+            (planes-free p bytes coefficients work samples none c w s same-c same-w same-s)
+        | no some ↦
+            let some-too : refusalOf Decode p (lengthsOf c w s) ≢ 0 = rw (same-c, same-w, same-s) some in
+            rw (← refused-by-check p bytes c w s some-too, ← refused-by-check p bytes coefficients work samples some, same-c, same-w, same-s, refusal-kept status 0 (length bytes) some, ne-eqb status 0 some) refl
+      ]
 
--- the lines of what a call gave
-pub lines-of :
-    (k : ℕ) (p : Parameters) (answer : Answer) (c w s : List ℤ) (d : DecodeResult) → outcome answer c w s ≡ d
-    → entryLines k p (answer .status) (answer .place) s ≡ resultLines k p d
-unfolding outcome
-lines-of k p answer c w s d told = ap (λ (t : DecodeResult). resultLines k p t) told
+  -- so they are the same whatever stood in the planes that a call was passed
+  module _ (lc : length coefficients ≡ planeLength p) (lw : length work ≡ planeLength p) (ls : length samples ≡ sampleLength p) where
+    pub lines-of : (k : ℕ) (answer : Answer) (c w s : List ℤ) → outcome answer c w s ≡ decoded p bytes coefficients work samples →
+        (status : ℕ) → status ≡ entryStatus (answer .status) (answer .place) (length bytes) →
+        entryLines k p status (answer .place) s ≡ bodyLines k p bytes
+    unfolding outcome entryDecoded
+    lines-of k answer c w s told status is =
+        ap (λ (n : ℕ). entryLines k p n (answer .place) s) is
+        ∙ ap (λ (d : DecodeResult). resultLines k p (length bytes) d) told
+        ∙ sym (lines-free k _ _ _ (length-replicate _ _ ∙ sym lc) (length-replicate _ _ ∙ sym lw) (length-replicate _ _ ∙ sym ls))
 
 -- the lines of the entry that the table has
 pub text-of :
     (file : List ℕ) (k : ℕ) (e : Entry) → e ≡ entryAt file k → (bytes : List ℕ) → bytes ≡ body file k
-    → resultLines k (e .parameters) (entryDecoded (e .parameters) bytes) ≡ entryText file k
+    → bodyLines k (e .parameters) bytes ≡ entryText file k
 unfolding entryText entryAt
 text-of file k e is bytes same =
     rw (ap (λ (x : Entry). x .parameters) is, same) refl
@@ -88,13 +114,3 @@ pub joined-same : (n : ℕ) (f g : ℕ → List ℕ) → ((k : ℕ) → k < n �
 unfolding joined
 joined-same zero f g same = refl
 joined-same (suc n) f g same = rw (joined-same n f g (λ k h. same k (omega arith)), same n (omega arith))
-
--- empty texts after the first m
-pub joined-empty : (m n : ℕ) (f : ℕ → List ℕ) → m ≤ n → ((k : ℕ) → m ≤ k → f k ≡ []) → joined n f ≡ joined m f
-unfolding joined
-joined-empty m zero f h empty = let e : m ≡ 0 = omega arith in rw e
-joined-empty m (suc n) f h empty =
-    elim (ℕ-discrete m (suc n)) [
-      | yes e ↦ rw e
-      | no ne ↦ rw (empty n (omega arith), append-nil (joined n f)) (joined-empty m n f (omega arith) empty)
-    ]

@@ -8,25 +8,22 @@ ghost use lib.ListN.{length, take};
 ghost use Rattle.io.specs.Counts.{Counts};
 ghost use Rattle.contents.specs.Table.{entryCount};
 ghost use Rattle.text.specs.Put.{Put};
-ghost use Rattle.recording.specs.Output.{planeLength, sampleLength, entryDecoded, resultLines, entryText};
-ghost use Rattle.recording.specs.Parts.{part};
+ghost use Rattle.recording.specs.Output.{planeLength, sampleLength, entryStatus, bodyLines, entryText};
+ghost use Rattle.recording.specs.Parts.{partCount, part};
 use crate::lines::put_entry;
 use crate::planes::plane_length;
 use crate::planes::sample_length;
-use base::plane::zero;
+use base::status::ACCEPTED;
+use base::status::BYTES_LEFT_OVER;
+use component::parameters::Answer;
 use component::parameters::Parameters;
-use contents::table::ENTRIES_MOST;
 use contents::table::FILE_MOST;
 use contents::table::entry_at;
-use contents::table::entry_count;
 use decode::decode;
 use text::put_word;
 
 // Room for a recording, with one byte more, which tells that a file is too long.
 pub const FILE_ROOM: usize = FILE_MOST + 1;
-
-// The most parts that a recording decodes to.
-pub const PARTS_MOST: usize = ENTRIES_MOST;
 
 // The largest padded area of an entry that is decoded.
 pub const AREA_MOST: usize = 16384;
@@ -34,28 +31,30 @@ pub const AREA_MOST: usize = 16384;
 // Room for the text of a part: 12 bytes for each sample, and 8,192 for the lines' ends and the heading.
 pub const TEXT_ROOM: usize = 204800;
 
-// Puts part k of what a file decodes to at the start of the text, and answers how long it is. There are at most 16 parts: one for each
-// entry, or one that says that the table is wrong. The planes may hold anything before and after.
+// How many parts the output of a file with so many entries has: one for each entry, or one that says that the table is wrong.
+pub fn part_count(entries: usize) -> usize
+    ensures { λ r. ⌜ r ≡ partCount entries ⌝ }
+{
+    if entries == 0 { 1 } else { entries }
+}
+
+// Puts part k of what a file with so many entries decodes to at the start of the text, and answers how long it is. The planes may hold
+// anything before and after.
 pub fn output_part(
     file: &[u8],
+    entries: usize,
     k: usize,
     coefficients: &mut [i32; AREA_MOST],
     work: &mut [i32; AREA_MOST],
     samples: &mut [i32; AREA_MOST],
     text: &mut [u8; TEXT_ROOM],
 ) -> usize
+    requires { ⌜ (entries ≡ entryCount (now file)) × (k < partCount entries) ⌝ }
     ensures { λ r. ⌜ take r (now (text .exit)) ≡ part (now (file .entry)) k ⌝ }
     ensures { λ r. ⌜ Counts r (now (text .exit)) ⌝ }
 {
-    let count = entry_count(file);
-    if count == 0 {
-        if k == 0 {
-            return put_word(text, 0, b"refused 11\n");
-        }
-        return 0;
-    }
-    if count <= k {
-        return 0;
+    if entries == 0 {
+        return put_word(text, 0, b"refused 11\n");
     }
     entry_text(file, k, coefficients, work, samples, text)
 }
@@ -103,12 +102,25 @@ fn decoded_text(
 ) -> usize
     requires { ⌜ (length (now coefficients) ≡ planeLength p) × (length (now work) ≡ planeLength p) × (length (now samples) ≡ sampleLength p) ⌝ }
     requires { ⌜ length (now text) ≡ 204800 ⌝ }
-    ensures { λ r. ⌜ Put 0 (now (text .entry)) (resultLines k p (entryDecoded p (now (body .entry)))) r (now (text .exit)) ⌝ }
+    ensures { λ r. ⌜ Put 0 (now (text .entry)) (bodyLines k p (now (body .entry))) r (now (text .exit)) ⌝ }
     ensures { λ r. ⌜ r ≤ 204800 ⌝ }
 {
-    zero(coefficients);
-    zero(work);
-    zero(samples);
     let answer = decode(p, body, coefficients, work, samples);
-    put_entry(text, k, p, answer, samples)
+    let status = entry_status(answer, body.len());
+    let place = answer.place;
+    put_entry(text, k, p, Answer { status, place }, samples)
+}
+
+// The status of an entry whose body has so many bytes, from what decode answered: 12 where bytes of an accepted one are left over.
+fn entry_status(answer: Answer, size: usize) -> u32
+    ensures { λ r. ⌜ r ≡ entryStatus (answer .status) (answer .place) size ⌝ }
+{
+    if answer.status != ACCEPTED {
+        return answer.status;
+    }
+    if answer.place == size {
+        ACCEPTED
+    } else {
+        BYTES_LEFT_OVER
+    }
 }

@@ -16,7 +16,7 @@ use borrow.Author.Tests.{eq-eqb, ne-eqb, eqb-true}
 use Rattle.base.specs.Every.{allBelow}
 use Rattle.base.specs.Lists.{zerosLike}
 use Rattle.base.specs.Range.{fits32}
-use Rattle.base.proofs.ListsLaws.{getD-tabulate}
+use Rattle.base.proofs.ListsLaws.{getD-tabulate, zeros-length}
 use Rattle.base.proofs.EveryLaws.{all-at}
 use Rattle.base.proofs.Booleans.{and-left, and-right, and-true}
 use Rattle.component.specs.Sizes.{sizeAt, paddedWidth, paddedHeight, lowWidth, lowHeight}
@@ -156,6 +156,13 @@ module _ (p : Parameters) (coefficients work samples : List ℤ) where
   pub job-accepted : status ≡ 0 → badLevel p coefficients ≡ 0 → synthesised p coefficients work samples ≡ accepted p coefficients work
   unfolding synthesised transformed
   job-accepted none fine = rw (eq-eqb status 0 none, eq-eqb (badLevel p coefficients) 0 fine)
+
+  -- what stood in the planes does not matter, unless a check refuses and leaves them
+  pub planes-free : (w s : List ℤ) → length w ≡ length work → length s ≡ length samples → status ≡ 0 →
+      synthesised p coefficients w s ≡ synthesised p coefficients work samples
+  unfolding synthesised transformed accepted overflowed
+  planes-free w s same also none =
+      rw (same, also, eq-eqb status 0 none, zeros-length w work same, zeros-length s samples also) refl
 
   -- a refusal that no check gave leaves zeros
   pub refused-zeros : status ≡ 0 → synthesised p coefficients work samples .status ≢ 0 →

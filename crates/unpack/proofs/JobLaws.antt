@@ -75,6 +75,11 @@ module _ (p : Parameters) (bytes : List ℕ) (plane : List ℤ) where
   unfolding unpacked
   job-read none = rw (eq-eqb (status p plane) 0 none)
 
+  -- what stood in the plane does not matter, unless a check refuses and leaves it
+  pub plane-free : (other : List ℤ) → length other ≡ length plane → status p plane ≡ 0 → unpacked p bytes other ≡ unpacked p bytes plane
+  unfolding unpacked
+  plane-free other same none = rw (same, eq-eqb (status p plane) 0 none, zeros-length other plane same) refl
+
   -- a refusal that no check gave leaves zeros
   pub refused-zeros : status p plane ≡ 0 → ZeroedIfRefused (unpacked p bytes plane)
   refused-zeros none = rw (job-read none) (subbands-zeroed p bytes (subbandCount (p .depth)) 0 0 (zerosLike plane))

@@ -7,16 +7,24 @@ use Rattle.kafsillun.proofs.write_output.Statement.{statement}
 use Rattle.kafsillun.proofs.write_output.Tie as tie
 
 abbrev Inv-loop : tie.InvT-loop
-Inv-loop file coefficients₀ work₀ samples₀ text₀ k₀ t8 coefficients work samples text k = Unit {0}
+Inv-loop file coefficients₀ work₀ samples₀ text₀ entries parts k₀ t8 coefficients work samples text k = Unit {0}
 
 abbrev μ-loop : tie.MeasureT-loop
-μ-loop file coefficients₀ work₀ samples₀ text₀ k₀ t8 coefficients work samples text k = 16 - k
+μ-loop file coefficients₀ work₀ samples₀ text₀ entries parts k₀ t8 coefficients work samples text k = parts - k
+
+entry-count-requires : tie.Need-entry-count-requires Inv-loop μ-loop
+entry-count-requires c κs = search needs
+
+part-count-requires : tie.Need-part-count-requires Inv-loop μ-loop
+part-count-requires c κs = search needs
 
 loop-holds : tie.Need-loop-holds Inv-loop μ-loop
 loop-holds c = tt
 
 output-part-requires : tie.Need-output-part-requires Inv-loop μ-loop
-output-part-requires c κs = search needs
+output-part-requires c κs =
+    let parts = c .before .before .before .before .before .before .part-count .ensures in
+    (c .before .before .before .before .before .before .before .entry-count .ensures, omega (arith, parts))
 
 array-share-prefix-text : tie.Need-array-share-prefix-text Inv-loop μ-loop
 array-share-prefix-text c = search needs
@@ -54,6 +62,8 @@ write-output-spec =
     (tie.spec
     Inv-loop
     μ-loop
+    entry-count-requires
+    part-count-requires
     loop-holds
     output-part-requires
     array-share-prefix-text

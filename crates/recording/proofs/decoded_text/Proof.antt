@@ -1,34 +1,29 @@
--- `recording::decoded_text` meets its contract: over zeroed planes decode gives what the entry's lines tell.
+-- `recording::decoded_text` meets its contract: what decode gives is what the entry's lines tell, whatever stood in the planes.
 -- Assumes nothing.
 use mathlib.Core.Path.{sym, ap, _∙_}
 use denote.Ref.{now}
 use Rattle.decode.specs.Job.{DecodeResult, outcome}
 use Rattle.text.proofs.PutLaws.{put-same}
-use Rattle.recording.proofs.OutputLaws.{samples-fit, entry-decoded, lines-of}
+use Rattle.recording.proofs.OutputLaws.{samples-fit, entry-accepted, lines-of}
 use borrow.Author.Needs.{needs}
 use Rattle.recording.proofs.decoded_text.Statement.{statement}
 use Rattle.recording.proofs.decoded_text.Tie as tie
 
-zero-requires : tie.Need-zero-requires
-zero-requires c κs = search needs
-
-zero-requires-2 : tie.Need-zero-requires-2
-zero-requires-2 c κs = search needs
-
-zero-requires-3 : tie.Need-zero-requires-3
-zero-requires-3 c κs = search needs
-
 decode-requires : tie.Need-decode-requires
 decode-requires c κs = search needs
+
+entry-status-requires : tie.Need-entry-status-requires
+entry-status-requires c κs = search needs
 
 put-entry-requires : tie.Need-put-entry-requires
 unfolding outcome
 put-entry-requires c κs =
-    let start = c .before .before .before .before .before .before .before .before .before .before .before .before .before .before .before .before .before .before .before .before in
-    let call = c .before .before .before .before .before .decode in (
+    let start = c .before .before .before .before .before .before .before .before .before .before .before .before in
+    let call = c .before .before .before .before .before .before .decode in (
       start .pre .1,
       λ fine.
-          let fit = samples-fit _ _ _ _ _ (c .before .before .before .before .before .before .before .before .before .before .before .before .before .before .before .before .zero .kept .0 ∙ start .pre .0 .0) (sym (ap (λ (d : DecodeResult). d .status) (call .ensures)) ∙ fine) in
+          let decoded = entry-accepted _ _ _ (sym (c .before .before .entry-status .ensures) ∙ fine) in
+          let fit = samples-fit _ _ _ _ _ (start .pre .0 .0) (sym (ap (λ (d : DecodeResult). d .status) (call .ensures)) ∙ decoded) in
           (call .kept .1 .1 .1 .1 .0 ∙ fit .0, fit .1, fit .2),
     )
 
@@ -46,20 +41,18 @@ same-length-4 c = search needs
 
 returns : tie.Need-returns
 returns c =
-    let start = c .before .before .before .before .before .before .before .before .before .before .before .before .before .before .before .before .before .before .before .before .before .before .before in
-    let call = c .before .before .before .before .before .before .before .before .decode in
+    let start = c .before .before .before .before .before .before .before .before .before .before .before .before .before .before .before in
+    let call = c .before .before .before .before .before .before .before .before .before .decode in
     let put = c .before .before .put-entry .ensures in
-    let same = lines-of (start .args .k) (start .args .p) (call .result) _ _ _ _ (call .ensures ∙ entry-decoded _ _ _ _ _ (now (start .args .coefficients)) (now (start .args .work)) (now (start .args .samples)) (start .pre .0 .0) (start .pre .0 .1) (start .pre .0 .2) (c .before .before .before .before .before .before .before .before .before .before .before .before .before .before .before .before .before .before .before .zero .ensures) (c .before .before .before .before .before .before .before .before .before .before .before .before .before .before .before .before .zero2 .ensures) (c .before .before .before .before .before .before .before .before .before .before .before .before .before .zero3 .ensures)) in
+    let same = lines-of _ _ _ _ _ (start .pre .0 .0) (start .pre .0 .1) (start .pre .0 .2) (start .args .k) (call .result) _ _ _ (call .ensures) _ (c .before .before .before .before .before .entry-status .ensures) in
     (put-same _ (now (start .args .text)) _ _ _ _ same (put .0), put .1)
 
 pub decoded-text-spec : {M : Type 1} → statement M
 decoded-text-spec =
     tie.close
     (tie.spec
-    zero-requires
-    zero-requires-2
-    zero-requires-3
     decode-requires
+    entry-status-requires
     put-entry-requires
     same-length
     same-length-2

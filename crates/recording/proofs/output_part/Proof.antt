@@ -1,19 +1,16 @@
 -- `recording::output_part` meets its contract: each way it ends is a case of the part's definition.
 -- Assumes nothing.
-use mathlib.Core.Path.{refl, sym, _∙_}
+use mathlib.Core.Path.{sym, _∙_}
 use Prim.Native.Nat.{_≤_}
 use native.Mathlib.Omega.{arith}
 use lib.ListN.{length}
 use lib.Seq.{length-take-le}
 use denote.Ref.{now}
 use Rattle.text.specs.Text.{ascii}
-use Rattle.recording.proofs.PartsLaws.{part-wrong, part-after-wrong, part-entry, part-after-last}
+use Rattle.recording.proofs.PartsLaws.{entry-parts, part-wrong, part-entry}
 use borrow.Author.Needs.{needs}
 use Rattle.recording.proofs.output_part.Statement.{statement}
 use Rattle.recording.proofs.output_part.Tie as tie
-
-entry-count-requires : tie.Need-entry-count-requires
-entry-count-requires c κs = search needs
 
 slice-aggregate-put-word : tie.Need-slice-aggregate-put-word
 slice-aggregate-put-word c = search needs
@@ -24,43 +21,25 @@ put-word-requires c κs = search needs
 returns : tie.Need-returns
 unfolding ascii
 returns c =
-    let start = c .before .before .before .before .before .before .before in
+    let start = c .before .before .before .before .before in
     let put = c .put-word .ensures in
-    let told = c .before .before .before .before .before .entry-count .ensures in
     let room : c .put-word .result ≤ length (c .put-word .last .0) = omega (arith, put .0, c .put-word .kept .0) in
-    (put .1 ∙ part-wrong (now (start .args .file)) (start .args .k) (sym told ∙ c .before .before .before .before .if1 .taken) (c .before .before .before .if2 .taken), (room, sym (length-take-le _ _ room)))
+    (put .1 ∙ part-wrong (now (start .args .file)) (start .args .k) (sym (start .pre .0) ∙ c .before .before .before .if1 .taken), (room, sym (length-take-le _ _ room)))
+
+entry-text-requires : tie.Need-entry-text-requires
+entry-text-requires c κs =
+    let start = c .before .before .before .before .before .before in
+    let below = rw (← entry-parts (start .args .entries) (c .before .before .before .before .if1 .left), start .pre .0) at (start .pre .1) in
+    search needs
 
 returns-2 : tie.Need-returns-2
 returns-2 c =
-    let start = c .before .before .before .before in
-    (part-after-wrong (now (start .args .file)) (start .args .k) (sym (c .before .before .entry-count .ensures) ∙ c .before .if1 .taken) (c .if2 .left), (omega arith, refl))
-
-returns-3 : tie.Need-returns-3
-returns-3 c =
-    let start = c .before .before .before .before in
-    let told = c .before .before .entry-count .ensures in
-    (part-after-last (now (start .args .file)) (start .args .k) (λ none. c .before .if1 .left (told ∙ none)) (omega (arith, told)), (omega arith, refl))
-
-entry-text-requires : tie.Need-entry-text-requires
-entry-text-requires c κs = search needs
-
-returns-4 : tie.Need-returns-4
-returns-4 c =
-    let start = c .before .before .before .before .before .before .before .before .before in
-    let told = c .before .before .before .before .before .before .before .entry-count .ensures in
+    let start = c .before .before .before .before .before .before .before in
     let put = c .entry-text .ensures in
     let room : c .entry-text .result ≤ length (c .entry-text .last .1 .1 .1 .1 .1 .0) = omega (arith, put .1, c .entry-text .kept .1 .1 .1 .1 .1 .0) in
-    (put .0 .1 ∙ part-entry (now (start .args .file)) (start .args .k) (omega (arith, told)), (room, sym (length-take-le _ _ room)))
+    (put .0 .1 ∙ part-entry (now (start .args .file)) (start .args .k) (λ none. c .before .before .before .before .before .if1 .left (start .pre .0 ∙ none)), (room, sym (length-take-le _ _ room)))
 
 pub output-part-spec : {M : Type 1} → statement M
 output-part-spec =
     tie.close
-    (tie.spec
-    entry-count-requires
-    slice-aggregate-put-word
-    put-word-requires
-    returns
-    returns-2
-    returns-3
-    entry-text-requires
-    returns-4)
+    (tie.spec slice-aggregate-put-word put-word-requires returns entry-text-requires returns-2)
