@@ -1,7 +1,8 @@
 //! A plain reference decoder for Dirac wavelet pictures.
 //!
-//! It states the rules of document 01 as directly as it can, and is used to judge other decoders:
-//! clarity comes before speed. Intermediate numbers have 64 or 128 bits and never wrap.
+//! It states the rules of document 01, and of document 02's request One, as directly as it can, and is
+//! used to judge other decoders: clarity comes before speed. Intermediate numbers have 64 or 128 bits and
+//! never wrap.
 //!
 //! The three jobs are [`unpack()`], [`synthesise`] and [`decode`]; [`analyse`] is the forward
 //! transform; [`mod@encode`] makes bodies for tests; [`recording`] reads and writes recordings;
@@ -72,7 +73,8 @@ fn check_decode(
     check_length(samples.len(), sample_area(p))
 }
 
-/// Unpacks bytes to coefficients; answers 0, 1, 2, 4, 5 or 6 to 9 (document 01, "Refusal numbers").
+/// Unpacks bytes to coefficients; answers 0, 1, 2, 4, 5 or 6 to 9 (document 01, "Refusal numbers"). Bytes
+/// after the last subband are not looked at: an accepted answer says how many were used.
 pub fn unpack(p: &Parameters, bytes: &[u8], coefficients: &mut [i32]) -> Answer {
     if let Err(answer) = check_unpack(p, coefficients) {
         return answer;
@@ -113,7 +115,9 @@ pub fn synthesise(
     }
 }
 
-/// Unpacks bytes and synthesises samples; answers 0 to 10 (document 01, "Refusal numbers").
+/// Unpacks bytes and synthesises samples; answers 0 to 10 (document 01, "Refusal numbers"). Bytes after
+/// the last subband are not looked at, as in [`unpack()`]; only in a recording are they a fault (document
+/// 02, "Left-over bytes are a fault").
 pub fn decode(
     p: &Parameters,
     bytes: &[u8],

@@ -1,7 +1,7 @@
 //! Parameters, statuses, sizes, subbands, and the checks made before any work.
 //!
 //! States document 01, "What the decoder covers", "Refusal numbers" (1 to 5)
-//! and "Sizes and the coefficient plane".
+//! and "Sizes and the coefficient plane". Status 12 is document 02's, request One.
 
 /// Status 0: accepted.
 pub const ACCEPTED: u32 = 0;
@@ -27,6 +27,9 @@ pub const COEFFICIENT_RANGE: u32 = 9;
 pub const SYNTHESIS_RANGE: u32 = 10;
 /// Status 11: a recording's table is wrong.
 pub const BAD_RECORDING: u32 = 11;
+/// Status 12: a recording's entry is accepted, but doesn't use its whole body (document 02, "Left-over
+/// bytes are a fault").
+pub const LEFT_OVER_BYTES: u32 = 12;
 
 /// The largest quantiser index that is accepted.
 pub const MAX_QUANTISER: u64 = 115;

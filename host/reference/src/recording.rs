@@ -1,11 +1,12 @@
 //! Recordings, read and written.
 //!
-//! States document 01, "A recording".
+//! States document 01, "A recording", but for its sentence on ignored bytes, which document 02, "Left-over
+//! bytes are a fault" (request One), amends.
 
 use crate::decode;
 use crate::params::{
     check_codeblocks, check_depth, check_size, check_wavelet, padded_area, sample_area, Answer,
-    Parameters, ACCEPTED, BAD_PLANE_LENGTH, BAD_RECORDING,
+    Parameters, ACCEPTED, BAD_PLANE_LENGTH, BAD_RECORDING, LEFT_OVER_BYTES,
 };
 
 /// The most bytes a recording may have.
@@ -103,7 +104,8 @@ fn entry_text(k: usize, entry: &Entry) -> String {
     text
 }
 
-/// The samples of an entry, or its refusal 1 to 10 (document 01, "A recording").
+/// The samples of an entry, or its refusal 1 to 10 (document 01, "A recording"), or 12 where none of
+/// those applies (document 02, "Left-over bytes are a fault").
 fn decode_entry(entry: &Entry) -> Result<Vec<i32>, Answer> {
     let p = &entry.parameters;
     check_size(p)?;
@@ -117,10 +119,20 @@ fn decode_entry(entry: &Entry) -> Result<Vec<i32>, Answer> {
     let mut work = vec![0; padded_area(p)];
     let mut samples = vec![0; sample_area(p)];
     let answer = decode(p, &entry.body, &mut coefficients, &mut work, &mut samples);
-    if answer.status == ACCEPTED {
-        Ok(samples)
+    if answer.status != ACCEPTED {
+        return Err(answer);
+    }
+    check_whole_body(answer.place, &entry.body)?;
+    Ok(samples)
+}
+
+/// Status 12 unless an accepted component used the whole body; its place is the bytes used (document
+/// 02, "Left-over bytes are a fault").
+fn check_whole_body(bytes_used: u64, body: &[u8]) -> Result<(), Answer> {
+    if bytes_used == body.len() as u64 {
+        Ok(())
     } else {
-        Err(answer)
+        Err(Answer::refused(LEFT_OVER_BYTES, bytes_used))
     }
 }
 

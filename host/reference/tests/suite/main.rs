@@ -1,9 +1,10 @@
-//! Tests of the reference decoder against document 01.
+//! Tests of the reference decoder against document 01 and document 02's request One.
 
 mod command;
 mod common;
 mod common_mistakes;
 mod filters;
+mod left_over_bytes;
 mod recordings;
 mod refusals;
 mod round_trips;

@@ -1,4 +1,5 @@
-//! Recordings: what they print, and every breach of their form (document 01, "A recording").
+//! Recordings: what they print, and every breach of their form (document 01, "A recording"). Bodies that
+//! aren't used to their end have a module of their own.
 
 use crate::common::*;
 use reference::recording::parse;
@@ -108,12 +109,13 @@ fn offsets_and_lengths() {
     let mut file = two_entries();
     file[field(0, 25)] = 2;
     assert_eq!(read_recording(&file), REFUSED);
-    // The boundary between the bodies moved in both entries: no breach, but a body without data.
+    // The boundary between the bodies moved in both entries: no breach, but a body with a byte left over
+    // and one without data.
     file[field(1, 21)] += 1;
     file[field(1, 25)] = 1;
     assert_eq!(
         read_recording(&file),
-        "entry 0: 1 x 1\n0\nentry 1: refused 6 place 0\n"
+        "entry 0: refused 12 place 1\nentry 1: refused 6 place 0\n"
     );
     // Bodies in the other order.
     let mut file = two_entries();
@@ -148,9 +150,10 @@ fn an_empty_body_is_no_breach() {
 
 #[test]
 fn the_largest_file() {
-    // The rest of a body after its used part is ignored.
+    // The stated length, which goes to the end of the file, counts as used.
     let mut entry = small_entry();
-    entry.body.resize(65_536 - 27, 0xAB);
+    let header = subband_bytes(0, &[0; 65_000]).len() - 65_000;
+    entry.body = subband_bytes(0, &vec![0xAB; 65_536 - 27 - header]);
     let file = write_recording(&[entry.clone()]);
     assert_eq!(file.len(), 65_536);
     assert_eq!(read_recording(&file), "entry 0: 1 x 1\n0\n");
@@ -223,7 +226,7 @@ fn the_largest_padded_area() {
     ] {
         let entry = Entry {
             parameters: plain(width, height, depth, 0, true),
-            body: vec![0x80; 13],
+            body: vec![0x80; 1 + 3 * depth as usize],
         };
         let first = printed(&entry).lines().next().unwrap().to_string();
         if allowed {
