@@ -99,6 +99,19 @@ pub fn subband_bytes(index: u64, data: &[u8]) -> Vec<u8> {
     joined(numbers(&[data.len() as u64, index]), data)
 }
 
+/// One subband's bytes of index 0 that begin with two bytes of 0: the code of a length of 255. The data is
+/// filled up with 0s to that length.
+pub fn zeros_first(data: &[u8]) -> Vec<u8> {
+    let mut data = data.to_vec();
+    data.resize(255, 0);
+    subband_bytes(0, &data)
+}
+
+/// A body whose subbands all have length 0, at a depth.
+pub fn body_of_zeros(depth: u32) -> Vec<u8> {
+    vec![0x80; 1 + 3 * depth as usize]
+}
+
 /// Bytes, then others.
 pub fn joined(mut first: Vec<u8>, then: &[u8]) -> Vec<u8> {
     first.extend(then);

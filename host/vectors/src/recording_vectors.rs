@@ -11,7 +11,7 @@
 use crate::pictures::{encode_coefficients, picture_coefficients};
 use crate::pieces::{
     bits, joined, plain, random_body, random_options, signed_numbers, sparse_body, subband_bytes,
-    with_codeblocks, with_random_codeblocks, EARLY_ENDS_OF_ONE, EARLY_ENDS_OF_TWO,
+    with_codeblocks, with_random_codeblocks, zeros_first, EARLY_ENDS_OF_ONE, EARLY_ENDS_OF_TWO,
 };
 use crate::random::Random;
 use crate::refused_recordings::refused_recordings;
@@ -334,8 +334,8 @@ fn quantiser_recordings() -> Vec<Recording> {
     vec![Recording::new("quantiser-every-index", &entries)]
 }
 
-/// Bytes and bits that aren't read, bits that are read past a stated length, and subbands and bodies of
-/// length 0.
+/// Bytes and bits that aren't read (those after the used part of a body are refused 12), bits that are read
+/// past a stated length, and subbands of length 0.
 fn byte_recordings() -> Vec<Recording> {
     let mut random = Random::new(28);
     let mut recordings = Vec::new();
@@ -349,7 +349,7 @@ fn byte_recordings() -> Vec<Recording> {
             entries.push(longer);
         }
     }
-    recordings.push(Recording::new("bytes-after-the-used-part", &entries));
+    recordings.push(Recording::new("refused-12-after-the-used-part", &entries));
 
     // The same numbers with 0, 1, 2 and 30 bytes of the length not used in each subband.
     let p = with_codeblocks(&plain(9, 6, 2, 2, true), 2, 2);
@@ -365,22 +365,33 @@ fn byte_recordings() -> Vec<Recording> {
     let entries = [false, true].map(|fill| layout(&|options| options.fill = fill));
     recordings.push(Recording::new("bits-before-boundaries", &entries));
 
-    // Each with bytes of 0s behind, which a reader that passes the length would find.
-    for (name, texts, across) in [
-        ("bits-past-the-length", EARLY_ENDS_OF_ONE, 1),
-        ("bits-past-the-length-with-flags", EARLY_ENDS_OF_TWO, 2),
-    ] {
-        let p = with_codeblocks(&plain(5, 2, 0, 0, false), across, 1);
-        let entries =
-            texts.map(|text| entry_of(&p, joined(subband_bytes(0, &bits(text)), &[0, 0, 0])));
-        recordings.push(Recording::new(name, &entries));
-    }
+    // Each subband of 5 x 2 values that ends early has bytes of 0s behind, which a reader that passes the
+    // length would find: those of the next subband, or, where it is the last, those of the next body.
+    let ended_early = |name: &str, texts: [&str; 9], across, body: &dyn Fn(Vec<u8>) -> Vec<u8>| {
+        let p = with_codeblocks(&plain(10, 4, 1, 3, false), across, 1);
+        let entries = texts.map(|text| entry_of(&p, body(subband_bytes(0, &bits(text)))));
+        Recording::new(name, &entries)
+    };
+    let zeros = zeros_first(&[0xFF; 2]);
+    let first = |band: Vec<u8>| [&band[..], &zeros, &[0x80; 2]].concat();
+    let last = |band: Vec<u8>| [&zeros[..], &[0x80; 2], &band].concat();
+    recordings.extend([
+        ended_early("bits-past-the-length", EARLY_ENDS_OF_ONE, 1, &first),
+        ended_early(
+            "bits-past-the-length-with-flags",
+            EARLY_ENDS_OF_TWO,
+            2,
+            &first,
+        ),
+        ended_early("bits-past-the-body", EARLY_ENDS_OF_ONE, 1, &last),
+        ended_early("bits-past-the-body-with-flags", EARLY_ENDS_OF_TWO, 2, &last),
+    ]);
 
     let mut entries = Vec::new();
     for skipped in [0x80, 0xFF, 0xA5] {
         for depth in [0, 1, 4] {
             let p = plain(3, 4, depth, 6, true);
-            entries.push(entry_of(&p, vec![skipped; 13]));
+            entries.push(entry_of(&p, vec![skipped; subbands(&p).len()]));
         }
         // Some of the subbands alone.
         let p = plain(8, 8, 2, 0, true);
@@ -426,7 +437,8 @@ fn extreme_recordings() -> Vec<Recording> {
                 let mut list = vec![0; low.width * low.height];
                 list[0] = value;
                 let body = subband_bytes(0, &signed_numbers(&list));
-                entries.push(entry_of(&p, joined(body, &[0x80; 12])));
+                let zeros = vec![0x80; 3 * depth as usize];
+                entries.push(entry_of(&p, joined(body, &zeros)));
             }
         }
     }
@@ -447,9 +459,17 @@ fn extreme_recordings() -> Vec<Recording> {
     ] {
         entries.push(entry_of(&p, subband_bytes(0, &signed_numbers(&list))));
     }
+    // Behind the end of the data there are 0s, which the next subband starts with.
+    let p = plain(6, 2, 1, 3, false);
     for last in ["00 00", "00 01", "01 00"] {
         let data = bits(&["1 1", &"00".repeat(29), last].concat());
-        entries.push(entry_of(&p, joined(subband_bytes(0, &data), &[0; 4])));
+        let body = [
+            &subband_bytes(0, &data)[..],
+            &zeros_first(&[0xFF]),
+            &[0x80; 2],
+        ]
+        .concat();
+        entries.push(entry_of(&p, body));
     }
     recordings.push(Recording::new("extremes-of-codes", &entries));
     recordings

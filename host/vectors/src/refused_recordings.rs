@@ -3,7 +3,8 @@
 //! Refusal 4 can't occur: a count is 0, which means 1, or 1..255.
 
 use crate::pieces::{
-    joined, numbers, plain, signed_numbers, subband_bytes, with_codeblocks, LARGEST_NUMBER,
+    body_of_zeros, joined, numbers, plain, signed_numbers, subband_bytes, with_codeblocks,
+    LARGEST_NUMBER,
 };
 use crate::random::Random;
 use crate::recording_vectors::{entry_of, synthesis_entry, Recording};
@@ -34,9 +35,10 @@ pub fn refused_recordings() -> Vec<Recording> {
     recordings
 }
 
-/// Sizes, depths, wavelets and padded areas out of range; the body would be accepted.
+/// Sizes, depths, wavelets and padded areas out of range; the body would be accepted, where its depth can
+/// be.
 fn parameter_recordings() -> Vec<Recording> {
-    let of = |p: Parameters| entry_of(&p, vec![0x80; 13]);
+    let of = |p: Parameters| entry_of(&p, body_of_zeros(p.depth.min(4)));
     let size = |(width, height)| of(plain(width, height, 1, 1, true));
     let depth = |depth| of(plain(5, 4, depth, 1, true));
     let wavelet = |wavelet| of(plain(5, 4, 2, wavelet, false));
@@ -249,7 +251,7 @@ fn synthesis_recordings(random: &mut Random) -> Vec<Recording> {
 /// Two faults or more in one entry.
 fn order_recordings(random: &mut Random) -> Vec<Recording> {
     vec![
-        parameter_order("order-1-2-3-5", &[0x80; 13]),
+        parameter_order("order-1-2-3-5", &body_of_zeros(2)),
         parameter_order("order-1-2-3-5-without-bytes", &[]),
         value_order(),
         prediction_order(),
@@ -258,7 +260,7 @@ fn order_recordings(random: &mut Random) -> Vec<Recording> {
     ]
 }
 
-/// Every set of refusals 1, 2, 3 and 5, over this body.
+/// Every set of refusals 1, 2, 3 and 5, over this body; without any of them the depth is 2.
 fn parameter_order(name: &str, body: &[u8]) -> Recording {
     let faults: [fn(&mut Parameters); 4] = [
         |p| p.width = 0,

@@ -230,19 +230,34 @@ fn offsets() -> Vec<Recording> {
         ),
         named("table-bodies-exchanged", exchanged),
         named("table-one-body-twice", first_twice),
-        // Right: the boundary between two bodies moved in both entries.
-        named(
-            "table-right-boundary-moved",
-            with_added(
-                three(),
-                &[
-                    (field(0, LENGTH), 1),
-                    (field(1, OFFSET), 1),
-                    (field(1, LENGTH), -1),
-                ],
-            ),
-        ),
+        // Right: the boundary between two bodies moved in both entries. Bodies that are cut there are
+        // refused; bodies made for it are not.
+        named("entries-cut-one-byte-late", boundary_moved()),
+        named("table-right-boundary-moved", bodies_at_the_moved_boundary()),
     ]
+}
+
+/// The three with the first body a byte longer and the second a byte shorter, in the table alone.
+fn boundary_moved() -> Vec<u8> {
+    let changes = [
+        (field(0, LENGTH), 1),
+        (field(1, OFFSET), 1),
+        (field(1, LENGTH), -1),
+    ];
+    with_added(three(), &changes)
+}
+
+/// The same table over bodies of those lengths: a byte of the last length of the first isn't used, and the
+/// second has smaller values.
+fn bodies_at_the_moved_boundary() -> Vec<u8> {
+    let mut bodies = entries();
+    let last = subband_bytes(0, &joined(signed_numbers(&[1]), &[0]));
+    bodies[0].body.splice(6.., last);
+    bodies[1].body = subband_bytes(0, &signed_numbers(&[0, 1, 0]));
+    let file = write_recording(&bodies);
+    let table = field(3, 0);
+    assert_eq!(file[..table], boundary_moved()[..table]);
+    file
 }
 
 /// Lengths: the last body against the file's end, and ends that pass 2^32.

@@ -6,9 +6,9 @@ use reference::params::{padded_area, padded_width, subbands, Subband};
 use reference::recording::parse;
 use reference::transform::fits_32_bits;
 use reference::unpack::codeblock_start;
-use reference::{read_recording, Entry, Parameters};
+use reference::{read_recording, write_recording, Entry, Parameters};
 use std::collections::BTreeSet;
-use vectors::runs::run_unpack;
+use vectors::runs::{run_decode, run_unpack};
 use vectors::synthesis_vectors::{filtered_level, level_end_fits, SynthesisJob};
 
 const REFUSED: &str = "refused 11\n";
@@ -26,7 +26,7 @@ fn the_command_writes_the_stored_files() {
 #[test]
 fn each_text_is_that_of_its_recording() {
     let stored = stored();
-    assert!(stored.len() >= 130, "{} recordings", stored.len());
+    assert!(stored.len() >= 135, "{} recordings", stored.len());
     for recording in &stored {
         let text = read_recording(&recording.file);
         assert!(text == recording.text, "{} differs", recording.name);
@@ -39,6 +39,8 @@ struct Case {
     /// The entry's bytes in the table.
     row: Vec<u8>,
     entry: Entry,
+    /// The byte behind its body in the file, if there is one.
+    behind: Option<u8>,
     /// The refusal's number and place, if it is refused.
     refused: Option<(u32, u64)>,
     /// Its samples, if it is accepted.
@@ -54,6 +56,7 @@ fn cases() -> Vec<Case> {
             continue;
         }
         let mut lines = recording.text.strip_suffix('\n').unwrap().split('\n');
+        let mut body_end = 1 + 26 * usize::from(recording.file[0]);
         for (k, entry) in parse(&recording.file).unwrap().into_iter().enumerate() {
             let p = &entry.parameters;
             let line = lines.next().unwrap();
@@ -72,8 +75,10 @@ fn cases() -> Vec<Case> {
                     assert_eq!(samples.len() - before, p.width as usize);
                 }
             }
+            body_end += entry.body.len();
             cases.push(Case {
                 recording: recording.name.clone(),
+                behind: recording.file.get(body_end).copied(),
                 row: recording.file[1 + 26 * k..][..26].to_vec(),
                 entry,
                 refused,
@@ -145,7 +150,7 @@ fn every_refusal_is_there() {
         );
     }
     // No other can occur in an entry.
-    let possible = [1, 2, 3, 5, 6, 7, 8, 9, 10];
+    let possible = [1, 2, 3, 5, 6, 7, 8, 9, 10, 12];
     for case in &cases {
         if let Some((number, _)) = case.refused {
             assert!(possible.contains(&number), "{}", case.recording);
@@ -355,7 +360,7 @@ fn every_size_is_there() {
     });
 }
 
-/// What the bytes of an accepted entry hold.
+/// What the bytes of an entry hold that decode accepts.
 #[derive(Default)]
 struct Contents {
     /// Subbands of length 0.
@@ -366,11 +371,14 @@ struct Contents {
     codeblocks: [usize; 3],
     /// Subbands whose values or flags go on past the stated length.
     past_the_length: usize,
+    /// Those that have a byte of 0 behind them, in the body, or that end the body.
+    past_the_length_before_0: usize,
+    past_the_body: usize,
     /// Bytes after the last subband.
     bytes_left: usize,
 }
 
-/// Reads the bytes of an accepted entry, and leaves the values aside.
+/// Reads the bytes of an entry that decode accepts, and leaves the values aside.
 fn contents(entry: &Entry) -> Contents {
     let p = &entry.parameters;
     let mut contents = Contents::default();
@@ -387,7 +395,11 @@ fn contents(entry: &Entry) -> Contents {
         let (data, behind) = rest[header.align()..].split_at(length);
         rest = behind;
         let within = read_codeblocks(p, &band, BitReader::new(data, PastEnd::Missing));
-        contents.past_the_length += usize::from(within.is_err());
+        if within.is_err() {
+            contents.past_the_length += 1;
+            contents.past_the_length_before_0 += usize::from(rest.first() == Some(&0));
+            contents.past_the_body += usize::from(rest.is_empty());
+        }
         let read = read_codeblocks(p, &band, BitReader::new(data, PastEnd::One)).unwrap();
         for (count, more) in contents.codeblocks.iter_mut().zip(read) {
             *count += more;
@@ -499,27 +511,59 @@ fn every_quantiser_index_is_accepted() {
 #[test]
 fn every_use_of_bytes_is_there() {
     let cases = accepted();
+    assert!(cases.len() >= 320, "{} accepted", cases.len());
     for case in &cases {
-        let used = case.entry.body.len() - contents(&case.entry).bytes_left;
+        let used = answer(0, case.entry.body.len() as u64);
         let given = run_unpack(&case.entry.parameters, &case.entry.body).0;
-        assert_eq!(given, answer(0, used as u64), "{}", case.recording);
+        assert_eq!(given, used, "{}", case.recording);
+        assert_eq!(contents(&case.entry).bytes_left, 0, "{}", case.recording);
     }
-    assert_cases(&cases, 250, "a body used to its end", |case| {
-        contents(&case.entry).bytes_left == 0
-    });
-    assert_cases(&cases, 50, "bytes after the used part", |case| {
-        contents(&case.entry).bytes_left > 0
-    });
     assert_cases(&cases, 70, "bits past a length", |case| {
         contents(&case.entry).past_the_length > 0
+    });
+    // A reader that passes the length would find 0s: in the next subband, or in the next body.
+    assert_cases(&cases, 17, "bits past a length before a 0", |case| {
+        contents(&case.entry).past_the_length_before_0 > 0
+    });
+    assert_cases(&cases, 15, "bits past a body before a 0", |case| {
+        contents(&case.entry).past_the_body > 0 && case.behind == Some(0)
     });
     assert_cases(&cases, 90, "a subband of length 0", |case| {
         contents(&case.entry).skipped_subbands > 0
     });
     // The used part is the largest that there may be in a file.
     assert_cases(&cases, 1, "a file used to its end", |case| {
-        contents(&case.entry).bytes_left == 0 && case.entry.body.len() == 65_536 - 27
+        case.entry.body.len() == 65_536 - 27
     });
+}
+
+/// Every entry with left-over bytes.
+fn left_over() -> Vec<Case> {
+    let is = |case: &Case| matches!(case.refused, Some((12, _)));
+    cases().into_iter().filter(is).collect()
+}
+
+#[test]
+fn left_over_bytes_follow_the_used_part() {
+    for case in &left_over() {
+        let (p, body) = (&case.entry.parameters, &case.entry.body);
+        let (_, place) = case.refused.unwrap();
+        let left = contents(&case.entry).bytes_left;
+        assert!(left > 0, "{}", case.recording);
+        assert_eq!(place, (body.len() - left) as u64, "{}", case.recording);
+        // The job accepts the component and says so many bytes; without the others the entry is accepted.
+        assert_eq!(
+            run_decode(p, body).0,
+            answer(0, place),
+            "{}",
+            case.recording
+        );
+        let mut whole = case.entry.clone();
+        whole.body.truncate(place as usize);
+        let text = read_recording(&write_recording(&[whole]));
+        let first = format!("entry 0: {} x {}\n", p.width, p.height);
+        assert!(text.starts_with(&first), "{}", case.recording);
+    }
 }
 
 #[test]
