@@ -5,9 +5,10 @@
 //! [`read_recording`], so the files are the same in every run.
 //!
 //! Here are recordings of accepted entries, and of accepted ones beside refused ones;
-//! [`crate::refused_recordings`] has those made for refusals 1 to 10, [`crate::wrong_tables`] those whose
-//! table is wrong or nearly so.
+//! [`crate::refused_recordings`] has those made for refusals 1 to 10, [`crate::left_over_recordings`] those
+//! for 12, [`crate::wrong_tables`] those whose table is wrong or nearly so.
 
+use crate::left_over_recordings::left_over_recordings;
 use crate::pictures::{encode_coefficients, picture_coefficients};
 use crate::pieces::{
     bits, joined, plain, random_body, random_options, signed_numbers, sparse_body, subband_bytes,
@@ -56,6 +57,7 @@ pub fn recordings() -> Vec<Recording> {
         extreme_recordings(),
         entry_recordings(),
         refused_recordings(),
+        left_over_recordings(),
         table_recordings(),
     ]
     .into_iter()
@@ -112,7 +114,7 @@ pub fn random_picture(random: &mut Random, p: &Parameters, height_of_edge: i64) 
 }
 
 /// An entry of numbers at random, half of them 0, in every subband.
-fn random_entry(random: &mut Random, p: &Parameters) -> Entry {
+pub fn random_entry(random: &mut Random, p: &Parameters) -> Entry {
     let bound = 1 << random.range(0, 12);
     entry_of(p, random_body(random, p, bound))
 }

@@ -16,11 +16,11 @@ use reference::params::{
 use reference::recording::Entry;
 use reference::unpack::dequantise;
 
-const MAX: i64 = i32::MAX as i64;
-const MIN: i64 = i32::MIN as i64;
+pub(crate) const MAX: i64 = i32::MAX as i64;
+pub(crate) const MIN: i64 = i32::MIN as i64;
 
 /// A value whose code has 32 data bits.
-const TOO_LONG: i64 = 1 << 32;
+pub(crate) const TOO_LONG: i64 = 1 << 32;
 
 /// Every recording of this module.
 pub fn refused_recordings() -> Vec<Recording> {
@@ -29,7 +29,7 @@ pub fn refused_recordings() -> Vec<Recording> {
     for (name, fault) in FAULTS {
         recordings.push(fault_recording(&mut random, name, fault));
     }
-    recordings.push(prediction_recording());
+    recordings.push(Recording::new("refused-9-predicted", &predicted_too_far()));
     recordings.extend(synthesis_recordings(&mut random));
     recordings.extend(order_recordings(&mut random));
     recordings
@@ -84,7 +84,7 @@ fn parameter_recordings() -> Vec<Recording> {
 }
 
 /// The bytes of a body from a subband on, given those that would follow the subband.
-type Fault = fn(&Subband, &[u8]) -> Vec<u8>;
+pub(crate) type Fault = fn(&Subband, &[u8]) -> Vec<u8>;
 
 /// Each way to be refused 6 to 9 that any subband has, and those that show which comes first.
 const FAULTS: [(&str, Fault); 19] = [
@@ -145,7 +145,7 @@ const FAULTS: [(&str, Fault); 19] = [
 ];
 
 /// A subband of small values, but for the last.
-fn values(band: &Subband, index: u64, last: i64) -> Vec<u8> {
+pub(crate) fn values(band: &Subband, index: u64, last: i64) -> Vec<u8> {
     let mut list: Vec<i64> = (0..band.width * band.height)
         .map(|k| [1, 0, -2, 0, 1][k % 5])
         .collect();
@@ -162,7 +162,7 @@ fn shortened(mut bytes: Vec<u8>) -> Vec<u8> {
 
 /// A fault at every subband of a component of depth 4, and at one of each depth 0, 1 and 2. The subbands
 /// before it, and those behind where the fault keeps them, are in order.
-fn fault_recording(random: &mut Random, name: &str, fault: Fault) -> Recording {
+pub(crate) fn fault_recording(random: &mut Random, name: &str, fault: Fault) -> Recording {
     let mut entries = Vec::new();
     let places = (0..13).map(|number| (4, number));
     for (depth, number) in places.chain([(0, 0), (1, 3), (2, 4)]) {
@@ -193,9 +193,9 @@ fn row(width: u32, height: u32, intra: bool, list: &[i64]) -> Entry {
     entry_of(&p, subband_bytes(0, &signed_numbers(list)))
 }
 
-/// Predicted values that leave 32 bits in the top row, in the left column and inside; and a value beyond
+/// Entries of predicted values that leave 32 bits in the top row, in the left column and inside; and a value beyond
 /// them that prediction would bring back.
-fn prediction_recording() -> Recording {
+pub(crate) fn predicted_too_far() -> Vec<Entry> {
     let mut entries = Vec::new();
     for list in [
         [MAX, 1, 0, 0],
@@ -217,7 +217,7 @@ fn prediction_recording() -> Recording {
     let plane = [MAX, 0, 0, 1];
     let options = EncodeOptions::uniform(&p, SubbandOptions::default());
     entries.push(entry_of(&p, encode_body(&p, &plane, &options)));
-    Recording::new("refused-9-predicted", &entries)
+    entries
 }
 
 /// Refusal 10 at each level, for a number that comes back, and for one in the padding alone.
@@ -236,16 +236,20 @@ fn synthesis_recordings(random: &mut Random) -> Vec<Recording> {
         .map(|wavelet| synthesis_entry(&out_and_back(random, wavelet)))
         .collect();
     recordings.push(Recording::new("refused-10-out-and-back", &entries));
-    // The Haar filter takes MAX, 2 to MAX - 1, MAX + 1, and the second column or row is padding.
-    let entries =
-        [(1, 2, [i32::MAX, 2, 0, 0]), (2, 1, [i32::MAX, 0, 2, 0])].map(|(width, height, plane)| {
-            synthesis_entry(&SynthesisJob {
-                parameters: plain(width, height, 1, 3, false),
-                coefficients: plane.into(),
-            })
-        });
+    let entries: Vec<Entry> = in_the_padding().iter().map(synthesis_entry).collect();
     recordings.push(Recording::new("refused-10-in-the-padding", &entries));
     recordings
+}
+
+/// Jobs refused for a number of the padding alone: the Haar filter takes MAX, 2 to MAX - 1, MAX + 1, and
+/// the second column or row is padding.
+pub(crate) fn in_the_padding() -> [SynthesisJob; 2] {
+    [(1, 2, [i32::MAX, 2, 0, 0]), (2, 1, [i32::MAX, 0, 2, 0])].map(|(width, height, plane)| {
+        SynthesisJob {
+            parameters: plain(width, height, 1, 3, false),
+            coefficients: plane.into(),
+        }
+    })
 }
 
 /// Two faults or more in one entry.
@@ -261,7 +265,7 @@ fn order_recordings(random: &mut Random) -> Vec<Recording> {
 }
 
 /// Every set of refusals 1, 2, 3 and 5, over this body; without any of them the depth is 2.
-fn parameter_order(name: &str, body: &[u8]) -> Recording {
+pub(crate) fn parameter_order(name: &str, body: &[u8]) -> Recording {
     let faults: [fn(&mut Parameters); 4] = [
         |p| p.width = 0,
         |p| p.depth = 9,

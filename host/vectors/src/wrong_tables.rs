@@ -153,11 +153,17 @@ fn flags() -> Vec<Recording> {
     refused[1].parameters.width = 0;
     let mut intra_2 = write_recording(&refused);
     intra_2[field(1, INTRA)] = 2;
+    // An entry that would be refused for left-over bytes, before one that is wrong.
+    let mut longer = entries();
+    longer[0].body.push(0x80);
+    let mut behind_left_over = write_recording(&longer);
+    behind_left_over[field(1, INTRA)] = 2;
     vec![
         named("table-intra-2", with_byte(field(0, INTRA), 2)),
         named("table-intra-255", with_byte(field(1, INTRA), 255)),
         named("table-intra-3-at-the-last", with_byte(field(2, INTRA), 3)),
         named("table-intra-2-of-a-refused-entry", intra_2),
+        named("table-intra-2-behind-left-over-bytes", behind_left_over),
         named("table-zero-byte-1", with_byte(field(0, ZERO), 1)),
         named("table-zero-byte-255", with_byte(field(1, ZERO), 255)),
         named(

@@ -26,7 +26,7 @@ fn the_command_writes_the_stored_files() {
 #[test]
 fn each_text_is_that_of_its_recording() {
     let stored = stored();
-    assert!(stored.len() >= 135, "{} recordings", stored.len());
+    assert!(stored.len() >= 165, "{} recordings", stored.len());
     for recording in &stored {
         let text = read_recording(&recording.file);
         assert!(text == recording.text, "{} differs", recording.name);
@@ -215,6 +215,7 @@ fn names_say_what_is_refused() {
             "refused-9-predicted",
             "order-6-to-9-before-10",
             "order-7-and-9-in-a-subband",
+            "order-9-predicted-before-12",
         ];
         if let Some(number) = number.filter(|_| !others.contains(&name)) {
             let places = (0..13).chain([0, 3, 4]);
@@ -223,7 +224,7 @@ fn names_say_what_is_refused() {
             count += 1;
         }
     }
-    assert_eq!(count, 19);
+    assert_eq!(count, 24);
     assert_eq!(refusals(&cases, "refused-9-predicted"), [(9, 0); 14]);
     // Parameters out of range, and at the end some that aren't.
     for (name, number, count) in [
@@ -246,14 +247,18 @@ fn names_say_what_is_refused() {
 fn the_first_refusal_is_given() {
     let cases = cases();
     // Each set of a width of 0, a depth of 9, a wavelet of 9 and a padded area above 16,384.
-    for (name, otherwise) in [("order-1-2-3-5", 0), ("order-1-2-3-5-without-bytes", 6)] {
+    for (name, otherwise) in [
+        ("order-1-2-3-5", (0, 0)),
+        ("order-1-2-3-5-without-bytes", (6, 0)),
+        ("order-1-2-3-5-before-12", (12, 7)),
+    ] {
         let expected: Vec<(u32, u64)> = (0..16)
             .map(|set| match set {
                 _ if set & 1 == 1 => (1, 0),
                 _ if set & 2 == 2 => (2, 0),
                 _ if set & 4 == 4 => (3, 0),
                 _ if set & 8 == 8 => (5, 0),
-                _ => (otherwise, 0),
+                _ => otherwise,
             })
             .collect();
         assert_eq!(refusals(&cases, name), expected);
@@ -371,9 +376,13 @@ struct Contents {
     codeblocks: [usize; 3],
     /// Subbands whose values or flags go on past the stated length.
     past_the_length: usize,
-    /// Those that have a byte of 0 behind them, in the body, or that end the body.
+    /// Those that have a byte of 0 behind them in the body.
     past_the_length_before_0: usize,
-    past_the_body: usize,
+    /// Of the last subband: its length, how many bytes of it no value or flag needs, and whether they go on
+    /// past it.
+    last_length: usize,
+    last_unused: usize,
+    last_ends_early: bool,
     /// Bytes after the last subband.
     bytes_left: usize,
 }
@@ -386,6 +395,9 @@ fn contents(entry: &Entry) -> Contents {
     for band in subbands(p) {
         let mut header = BitReader::new(rest, PastEnd::Missing);
         let length = header.number().unwrap() as usize;
+        contents.last_length = length;
+        contents.last_unused = 0;
+        contents.last_ends_early = false;
         if length == 0 {
             contents.skipped_subbands += 1;
             rest = &rest[header.align()..];
@@ -394,13 +406,15 @@ fn contents(entry: &Entry) -> Contents {
         contents.indices.push(header.number().unwrap());
         let (data, behind) = rest[header.align()..].split_at(length);
         rest = behind;
-        let within = read_codeblocks(p, &band, BitReader::new(data, PastEnd::Missing));
+        let within = read_codeblocks(p, &band, &mut BitReader::new(data, PastEnd::Missing));
         if within.is_err() {
             contents.past_the_length += 1;
             contents.past_the_length_before_0 += usize::from(rest.first() == Some(&0));
-            contents.past_the_body += usize::from(rest.is_empty());
+            contents.last_ends_early = true;
         }
-        let read = read_codeblocks(p, &band, BitReader::new(data, PastEnd::One)).unwrap();
+        let mut reader = BitReader::new(data, PastEnd::One);
+        let read = read_codeblocks(p, &band, &mut reader).unwrap();
+        contents.last_unused = length - reader.align();
         for (count, more) in contents.codeblocks.iter_mut().zip(read) {
             *count += more;
         }
@@ -413,7 +427,7 @@ fn contents(entry: &Entry) -> Contents {
 fn read_codeblocks(
     p: &Parameters,
     band: &Subband,
-    mut reader: BitReader,
+    reader: &mut BitReader,
 ) -> Result<[usize; 3], u32> {
     let across = p.codeblocks_across[band.level as usize] as usize;
     let down = p.codeblocks_down[band.level as usize] as usize;
@@ -511,7 +525,7 @@ fn every_quantiser_index_is_accepted() {
 #[test]
 fn every_use_of_bytes_is_there() {
     let cases = accepted();
-    assert!(cases.len() >= 320, "{} accepted", cases.len());
+    assert!(cases.len() >= 380, "{} accepted", cases.len());
     for case in &cases {
         let used = answer(0, case.entry.body.len() as u64);
         let given = run_unpack(&case.entry.parameters, &case.entry.body).0;
@@ -526,11 +540,17 @@ fn every_use_of_bytes_is_there() {
         contents(&case.entry).past_the_length_before_0 > 0
     });
     assert_cases(&cases, 15, "bits past a body before a 0", |case| {
-        contents(&case.entry).past_the_body > 0 && case.behind == Some(0)
+        contents(&case.entry).last_ends_early && case.behind == Some(0)
     });
     assert_cases(&cases, 90, "a subband of length 0", |case| {
         contents(&case.entry).skipped_subbands > 0
     });
+    // The stated length counts as used.
+    for depth in 0..=4 {
+        assert_cases(&cases, 3, "a last length not used up", |case| {
+            case.entry.parameters.depth == depth && contents(&case.entry).last_unused > 0
+        });
+    }
     // The used part is the largest that there may be in a file.
     assert_cases(&cases, 1, "a file used to its end", |case| {
         case.entry.body.len() == 65_536 - 27
@@ -567,6 +587,146 @@ fn left_over_bytes_follow_the_used_part() {
 }
 
 #[test]
+fn every_kind_of_left_over_bytes_is_there() {
+    let cases = left_over();
+    assert!(cases.len() >= 210, "{} left over", cases.len());
+    let left = |case: &Case| contents(&case.entry).bytes_left;
+    let place = |case: &Case| case.refused.unwrap().1;
+    for depth in 0..=4 {
+        for intra in [false, true] {
+            let kind = format!("left over depth {depth} intra {intra}");
+            assert_cases(&cases, 9, &kind, |case| {
+                let p = &case.entry.parameters;
+                p.depth == depth && p.intra == intra
+            });
+        }
+        assert_cases(&cases, 5, "values in every subband", |case| {
+            case.entry.parameters.depth == depth && has_values_in_every_subband(&case.entry)
+        });
+    }
+    for wavelet in 0..7 {
+        assert_cases(
+            &cases,
+            10,
+            &format!("left over wavelet {wavelet}"),
+            |case| case.entry.parameters.wavelet == wavelet,
+        );
+    }
+    for count in [1, 2, 3, 8, 255, 256, 257, 65_508] {
+        assert_cases(&cases, 1, &format!("{count} left over"), |case| {
+            left(case) == count
+        });
+    }
+    for number in [
+        1, 2, 9, 10, 99, 100, 255, 256, 999, 1000, 9999, 10_000, 65_508,
+    ] {
+        assert_cases(&cases, 1, &format!("place {number}"), |case| {
+            place(case) == number
+        });
+    }
+    for byte in [0x00, 0x80, 0xFF] {
+        assert_cases(&cases, 5, &format!("{byte} left over alone"), |case| {
+            left(case) == 1 && case.entry.body.last() == Some(&byte)
+        });
+    }
+    // The last subband has length 0, ends before its values do, or goes on behind them.
+    assert_cases(&cases, 40, "after a length of 0", |case| {
+        contents(&case.entry).last_length == 0
+    });
+    assert_cases(&cases, 30, "after an early end", |case| {
+        contents(&case.entry).last_ends_early
+    });
+    assert_cases(&cases, 30, "after a length not used up", |case| {
+        contents(&case.entry).last_unused > 0
+    });
+    // The bytes are a subband, or a body of the entry's own parameters.
+    assert_cases(&cases, 40, "one more subband", |case| {
+        let rest = &case.entry.body[place(case) as usize..];
+        subband_end(rest) == Some(rest.len())
+    });
+    assert_cases(&cases, 15, "one more component", |case| {
+        let rest = &case.entry.body[place(case) as usize..];
+        run_decode(&case.entry.parameters, rest).0 == answer(0, rest.len() as u64)
+    });
+    // Samples that aren't printed: as many as there may be, and others than 0.
+    assert_cases(&cases, 8, "an area of 16,384", |case| {
+        padded_area(&case.entry.parameters) == 16_384
+    });
+    assert_cases(&cases, 130, "samples other than 0", |case| {
+        let (_, _, _, samples) = run_decode(&case.entry.parameters, &case.entry.body);
+        samples.iter().any(|&sample| sample != 0)
+    });
+}
+
+/// Where a subband that starts these bytes ends, if it does.
+fn subband_end(bytes: &[u8]) -> Option<usize> {
+    let mut header = BitReader::new(bytes, PastEnd::Missing);
+    let length = header.number().ok()? as usize;
+    if length > 0 {
+        header.number().ok()?;
+    }
+    let end = header.align() + length;
+    (end <= bytes.len()).then_some(end)
+}
+
+/// Where an entry's subbands end by their stated lengths, if they do.
+fn stated_end(entry: &Entry) -> Option<usize> {
+    let mut end = 0;
+    for _ in 0..1 + 3 * entry.parameters.depth {
+        end += subband_end(&entry.body[end..])?;
+    }
+    Some(end)
+}
+
+#[test]
+fn refusals_1_to_10_come_before_left_over_bytes() {
+    let cases = cases();
+    // The body goes on behind its last subband, but the refusal is another.
+    for (number, least) in [(1, 5), (3, 3), (5, 2), (7, 17), (8, 17), (9, 32), (10, 18)] {
+        assert_cases(&cases, least, &format!("{number} before 12"), |case| {
+            case.refused.is_some_and(|refused| refused.0 == number)
+                && case.recording.ends_with("-before-12")
+                && stated_end(&case.entry).is_some_and(|end| end < case.entry.body.len())
+        });
+    }
+    // There is no last subband: the depth is out of range, or a length overruns bytes that are there.
+    assert_cases(&cases, 5, "2 before 12", |case| {
+        case.refused == Some((2, 0)) && case.recording.ends_with("-before-12")
+    });
+    assert_cases(&cases, 17, "6 before 12", |case| {
+        matches!(case.refused, Some((6, _))) && case.recording.ends_with("-before-12")
+    });
+    let levels = (0..7).flat_map(|wavelet| [(10, wavelet % 4 + 1), (10, 1)]);
+    assert_eq!(
+        refusals(&cases, "order-10-before-12"),
+        levels.chain([(10, 1), (10, 1)]).collect::<Vec<_>>()
+    );
+    assert_eq!(
+        refusals(&cases, "order-9-predicted-before-12"),
+        [(9, 0); 14]
+    );
+    // The last that isn't refused 1 to 10, and the first that is.
+    assert_eq!(
+        refusals(&cases, "order-edges-of-1-2-3-5-before-12"),
+        [
+            (12, 1),
+            (1, 0),
+            (12, 13),
+            (2, 0),
+            (12, 4),
+            (3, 0),
+            (12, 4),
+            (5, 0)
+        ]
+    );
+    let numbers: Vec<u32> = refusals(&cases, "order-edges-of-6-to-10-before-12")
+        .iter()
+        .map(|(number, _)| *number)
+        .collect();
+    assert_eq!(numbers, [12, 0, 6, 12, 9, 7, 12, 9, 12, 8, 12, 10, 12, 10]);
+}
+
+#[test]
 fn the_extremes_of_32_bits_are_printed() {
     let cases = cases();
     for extreme in [i32::MIN, i32::MAX] {
@@ -587,16 +747,44 @@ fn entries_stand_beside_each_other() {
     let cases = cases();
     let answers = |name| refusals(&cases, name);
     assert_eq!(answers("entries-16"), [(0, 0); 16]);
-    let between: Vec<u32> = answers("entries-refused-between-accepted")
-        .iter()
-        .map(|(number, _)| *number)
-        .collect();
-    assert_eq!(between, [0, 1, 2, 0, 3, 0, 5, 0, 6, 7, 0, 8, 0, 9, 10, 0]);
+    let numbers = |name| -> Vec<u32> { answers(name).iter().map(|(number, _)| *number).collect() };
+    assert_eq!(
+        numbers("entries-refused-between-accepted"),
+        [0, 1, 2, 0, 3, 0, 5, 0, 6, 7, 0, 8, 0, 9, 10, 0]
+    );
     assert_eq!(
         answers("entries-refused-first-and-last"),
         [(1, 0), (0, 0), (0, 0), (6, 0)]
     );
     assert_eq!(answers("table-right-16-empty-bodies"), [(6, 0); 16]);
+    assert_eq!(numbers("entries-left-over-16"), [12; 16]);
+    assert_eq!(
+        numbers("entries-left-over-between-accepted"),
+        [0, 12, 0, 12, 12, 0, 6, 12, 6, 12, 7, 12, 10, 12, 12, 0]
+    );
+    assert_eq!(numbers("entries-left-over-first-and-last"), [12, 0, 0, 12]);
+    let padded = numbers("entries-padded-to-4-bytes");
+    assert!(padded.contains(&0) && padded.contains(&12));
+    // Two bodies of 8 bytes, cut after 0, 2, 7, 8, 9, 10, 12 and 16 of their bytes.
+    assert_eq!(
+        answers("entries-cut-anywhere"),
+        [
+            [(6, 0), (12, 8)],
+            [(6, 1), (12, 8)],
+            [(6, 3), (0, 0)],
+            [(0, 0), (0, 0)],
+            [(12, 8), (6, 0)],
+            [(12, 8), (6, 3)],
+            [(12, 8), (6, 2)],
+            [(12, 8), (6, 0)],
+        ]
+        .concat()
+    );
+    assert_eq!(
+        answers("entries-cut-one-byte-late"),
+        [(12, 8), (6, 0), (0, 0)]
+    );
+    assert_eq!(answers("table-right-boundary-moved"), [(0, 0); 3]);
 }
 
 /// What can be wrong with a recording's form (document 01, "A recording").
