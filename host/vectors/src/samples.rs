@@ -7,11 +7,14 @@ use reference::encode::{encode_body, EncodeOptions, SubbandOptions};
 use reference::params::{subbands, Parameters};
 use reference::recording::Entry;
 
-/// The samples: document 01's whole case, and the edge of a pad.
+/// The samples: document 01's whole case, the edge of a pad, and the two faults of document 02, "Left-over
+/// bytes are a fault".
 pub fn samples() -> Vec<Recording> {
     vec![
         Recording::new("whole-case", &[whole_case()]),
         Recording::new("pad-edge", &[pad_edge()]),
+        Recording::new("cut-at-the-wrong-entry", &cut_at_the_wrong_entry()),
+        Recording::new("padded-by-old-firmware", &padded_by_old_firmware()),
     ]
 }
 
@@ -22,6 +25,44 @@ pub fn whole_case() -> Entry {
     // The coefficients are 10 4 / -2 1, and at the corner prediction adds 0.
     let body = encode_body(&p, &[10, 4, -2, 1], &options);
     entry_of(&with_codeblocks(&p, 0, 0), body)
+}
+
+/// Three small pictures as they should be stored: the whole case, and two of the same form.
+pub fn three_pictures() -> [Entry; 3] {
+    let p = plain(2, 2, 1, 3, true);
+    let options = EncodeOptions::uniform(&p, SubbandOptions::default());
+    [
+        whole_case(),
+        picture_entry(&p, &[6, 9, 5, 12], &options),
+        picture_entry(&p, &[10, 8, 3, 2], &options),
+    ]
+}
+
+/// The bytes that a wrong cut takes from the second body: its first subband.
+pub const CUT_LATE: usize = 2;
+
+/// The three pictures, but the first body goes on into the second.
+fn cut_at_the_wrong_entry() -> [Entry; 3] {
+    let mut entries = three_pictures();
+    let cut: Vec<u8> = entries[1].body.drain(..CUT_LATE).collect();
+    entries[0].body.extend(cut);
+    entries
+}
+
+/// What the old firmware fills up a body to a multiple of, with zeros.
+pub const PADDED_TO: usize = 16;
+
+/// The whole case in a body that the old firmware filled up, and a small edge whose body it left as it was.
+fn padded_by_old_firmware() -> [Entry; 2] {
+    let p = plain(4, 3, 1, 3, true);
+    let options = EncodeOptions::uniform(&p, SubbandOptions::default());
+    let edge = [10, 11, 12, 30, 10, 12, 30, 31, 11, 30, 31, 31];
+    let mut entries = [whole_case(), picture_entry(&p, &edge, &options)];
+    for entry in &mut entries {
+        let bytes = entry.body.len().next_multiple_of(PADDED_TO);
+        entry.body.resize(bytes, 0);
+    }
+    entries
 }
 
 /// The parameters of the picture of a pad.

@@ -1,10 +1,12 @@
 //! The recordings in `samples`.
 
 use crate::common::*;
-use reference::read_recording;
 use reference::recording::parse;
+use reference::{read_recording, write_recording};
 use vectors::runs::run_decode;
-use vectors::samples::{pad_edge_parameters, pad_edge_picture};
+use vectors::samples::{
+    pad_edge_parameters, pad_edge_picture, three_pictures, CUT_LATE, PADDED_TO,
+};
 
 /// The bytes that document 01 gives for the whole case.
 #[rustfmt::skip]
@@ -61,4 +63,38 @@ fn the_edge_of_a_pad() {
         let largest = row.windows(2).map(|pair| pair[1] - pair[0]).max();
         assert!(largest >= Some(60), "{largest:?}");
     }
+}
+
+#[test]
+fn a_body_cut_at_the_wrong_entry() {
+    let sample = sample("cut-at-the-wrong-entry");
+    assert_eq!(
+        sample.text,
+        "entry 0: refused 12 place 8\nentry 1: refused 6 place 3\nentry 2: 2 x 2\n10 8\n3 2\n"
+    );
+    // The bytes are those of three pictures; only the table says otherwise.
+    let whole = write_recording(&three_pictures());
+    let table = 1 + 3 * 26;
+    assert_eq!(sample.file[table..], whole[table..]);
+    let entries = parse(&sample.file).unwrap();
+    let lengths: Vec<usize> = entries.iter().map(|entry| entry.body.len()).collect();
+    assert_eq!(lengths, [8 + CUT_LATE, 8 - CUT_LATE, 8]);
+    assert_eq!(
+        read_recording(&whole),
+        "entry 0: 2 x 2\n9 12\n7 11\nentry 1: 2 x 2\n6 9\n5 12\nentry 2: 2 x 2\n10 8\n3 2\n"
+    );
+}
+
+#[test]
+fn a_body_padded_by_old_firmware() {
+    let sample = sample("padded-by-old-firmware");
+    assert_eq!(
+        sample.text,
+        "entry 0: refused 12 place 8\nentry 1: 4 x 3\n10 11 12 30\n10 12 30 31\n11 30 31 31\n"
+    );
+    let entries = parse(&sample.file).unwrap();
+    for entry in &entries {
+        assert_eq!(entry.body.len(), PADDED_TO);
+    }
+    assert_eq!(entries[0].body[8..], [0; 8]);
 }
