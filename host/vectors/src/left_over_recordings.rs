@@ -15,10 +15,10 @@ use crate::refused_recordings::{
     fault_recording, in_the_padding, parameter_order, predicted_too_far, values, Fault, MAX, MIN,
     TOO_LONG,
 };
-use crate::samples::whole_case;
+use crate::samples::{three_pictures, whole_case};
 use crate::synthesis_vectors::{edge_jobs, out_and_back, refused_at};
-use reference::encode::{encode_body, encode_subbands, EncodeOptions, SubbandOptions};
-use reference::params::{padded_area, subbands, Parameters, MAX_QUANTISER};
+use reference::encode::{encode_subbands, EncodeOptions, SubbandOptions};
+use reference::params::{padded_area, Parameters, MAX_QUANTISER};
 use reference::recording::{Entry, ENTRY_BYTES, MAX_FILE};
 
 /// The most bytes that a body can have: those of a file of one entry without its table.
@@ -103,12 +103,12 @@ fn many_bytes(random: &mut Random) -> Vec<Recording> {
     ]
 }
 
-/// A body of one subband that states and uses so many bytes; its only value is 1.
+/// A body of one subband that states so many bytes, with its header. It has one value, in the first byte.
 fn body_of(bytes: usize) -> Vec<u8> {
     if bytes == 1 {
         return body_of_zeros(0);
     }
-    // No header of index 0 may lead to this number of bytes, as a length above 2^k - 2 has a longer code.
+    // Index 0 leaves out a number of bytes where the code of the length grows; another index has it.
     for index in 0..=MAX_QUANTISER {
         for header in 1..bytes.min(8) {
             let length = bytes - header;
@@ -137,25 +137,32 @@ fn places() -> Vec<Recording> {
 
 /// What the last subband is: of length 0, longer than its values, or shorter.
 fn last_subbands(random: &mut Random) -> Vec<Recording> {
-    let mut recordings = Vec::new();
+    let mut recordings = vec![after_a_length_of_0(random)];
+    recordings.extend(after_a_length_not_used_up(random));
+    recordings.extend(after_an_early_end());
+    recordings
+}
 
+/// Bytes behind a last subband of length 0: all subbands are so, or only the last is.
+fn after_a_length_of_0(random: &mut Random) -> Recording {
     let mut entries = Vec::new();
     for skipped in [0x80, 0xFF, 0xA5] {
-        for depth in [0, 1, 4] {
+        for (depth, bytes) in [(0, 13), (1, 13), (4, 14)] {
             let p = plain(3, 4, depth, 6, true);
-            let bytes = subbands(&p).len().max(13) + usize::from(depth == 4);
             entries.push(entry_of(&p, vec![skipped; bytes]));
         }
     }
     for depth in 1..=4 {
         let p = plain(6, 5, depth, depth, false);
         let mut bands = subbands_of_values(random, &p, SubbandOptions::default());
-        *bands.last_mut().expect("a last subband") = vec![0xC1];
-        entries.push(entry_of(&p, joined(bands.concat(), &[0x00, 0xC1])));
+        bands.pop();
+        entries.push(entry_of(&p, joined(bands.concat(), &[0xC1, 0x00, 0xC1])));
     }
-    recordings.push(Recording::new("refused-12-after-a-length-of-0", &entries));
+    Recording::new("refused-12-after-a-length-of-0", &entries)
+}
 
-    // The stated length counts as used, however few of its bytes the values need.
+/// Last subbands with bytes that no value needs, which count as used, and the same with a byte behind.
+fn after_a_length_not_used_up(random: &mut Random) -> Vec<Recording> {
     let mut entries = Vec::new();
     let mut longer = Vec::new();
     for depth in 0..=4 {
@@ -166,33 +173,34 @@ fn last_subbands(random: &mut Random) -> Vec<Recording> {
                 ..SubbandOptions::default()
             };
             let mut bands = subbands_of_values(random, &p, SubbandOptions::default());
-            let last = subbands_of_values(random, &p, options).pop();
-            *bands.last_mut().expect("a last subband") = last.expect("a last subband");
+            bands.pop();
+            bands.extend(subbands_of_values(random, &p, options).pop());
             let entry = entry_of(&p, bands.concat());
             longer.push(with_behind(entry.clone(), &[0x01]));
             entries.push(entry);
         }
     }
-    recordings.push(Recording::new("bytes-unused-in-the-last-length", &entries));
-    recordings.push(Recording::new(
-        "refused-12-after-bytes-unused-in-the-last-length",
-        &longer,
-    ));
+    vec![
+        Recording::new("bytes-unused-in-the-last-length", &entries),
+        Recording::new("refused-12-after-bytes-unused-in-the-last-length", &longer),
+    ]
+}
 
-    for (name, texts, across) in [
+/// Bytes of 0 behind a subband whose values go on past its length.
+fn after_an_early_end() -> [Recording; 2] {
+    [
         ("refused-12-after-an-early-end", EARLY_ENDS_OF_ONE, 1),
         (
             "refused-12-after-an-early-end-with-flags",
             EARLY_ENDS_OF_TWO,
             2,
         ),
-    ] {
+    ]
+    .map(|(name, texts, across)| {
         let p = with_codeblocks(&plain(5, 2, 0, 0, false), across, 1);
-        let entries =
-            texts.map(|text| entry_of(&p, joined(subband_bytes(0, &bits(text)), &[0, 0, 0])));
-        recordings.push(Recording::new(name, &entries));
-    }
-    recordings
+        let body = |text| joined(subband_bytes(0, &bits(text)), &[0, 0, 0]);
+        Recording::new(name, &texts.map(|text| entry_of(&p, body(text))))
+    })
 }
 
 /// The bytes of each subband of a component, every value of which is 1 to 9.
@@ -223,8 +231,7 @@ fn more_of_the_same(random: &mut Random) -> Vec<Recording> {
         if depth < 4 {
             let deeper = plain(9, 7, depth + 1, depth, depth % 2 == 0);
             level.push(entry_of(&p, random_body(random, &deeper, 20)));
-            let zeros = entry_of(&p, body_of_zeros(depth + 1));
-            level.push(zeros);
+            level.push(entry_of(&p, body_of_zeros(depth + 1)));
         }
         let entry = entry_of(&p, random_body(random, &p, 20));
         let twice = entry.body.clone();
@@ -297,19 +304,6 @@ fn neighbours(random: &mut Random) -> Vec<Recording> {
         entry.body.resize(bytes, 0);
     }
 
-    // Two bodies of 8 bytes: the table may divide the 16 bytes anywhere.
-    let p = whole_case().parameters;
-    let options = EncodeOptions::uniform(&p, SubbandOptions::default());
-    let plane = [7, -3, 2, 5];
-    let second = encode_body(&with_codeblocks(&p, 1, 1), &plane, &options);
-    assert_eq!(second.len(), 8);
-    let bytes = joined(whole_case().body, &second);
-    let mut cut = Vec::new();
-    for end in [0, 2, 7, 8, 9, 10, 12, 16] {
-        let (first, second) = bytes.split_at(end);
-        cut.push(entry_of(&p, first.to_vec()));
-        cut.push(entry_of(&p, second.to_vec()));
-    }
     let first_and_last = [
         longer[0].clone(),
         sixteen[1].clone(),
@@ -321,8 +315,21 @@ fn neighbours(random: &mut Random) -> Vec<Recording> {
         Recording::new("entries-left-over-between-accepted", &between),
         Recording::new("entries-left-over-first-and-last", &first_and_last),
         Recording::new("entries-padded-to-4-bytes", &padded),
-        Recording::new("entries-cut-anywhere", &cut),
+        Recording::new("entries-cut-anywhere", &cut_anywhere()),
     ]
+}
+
+/// Two bodies of 8 bytes each, which the table divides in eight ways, only one of them right.
+fn cut_anywhere() -> Vec<Entry> {
+    let [first, second, _] = three_pictures();
+    let bytes = joined(first.body, &second.body);
+    let mut entries = Vec::new();
+    for cut in [0, 2, 7, 8, 9, 10, 12, 16] {
+        for part in [&bytes[..cut], &bytes[cut..]] {
+            entries.push(entry_of(&first.parameters, part.to_vec()));
+        }
+    }
+    entries
 }
 
 /// Bytes that no subband states.
