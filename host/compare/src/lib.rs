@@ -3,8 +3,10 @@
 //! A [`Case`] is one component with everything that the three jobs are given; its seed names it.
 //! [`check()`] runs the jobs in a decoder and the reference and compares status, place, every entry of
 //! every plane and the memory around them. [`Statistics`] tells what the cases reached.
-//! [`mod@round_trip`] has the proved library undo the reference's analysis. [`mod@work`] does either for
-//! a range of seeds, on threads.
+//! [`mod@round_trip`] has the proved library undo the reference's analysis. A [`Recording`] is a file for
+//! the proved program; [`check_recording`] has it read and compares what is written,
+//! [`RecordingStatistics`] tells what the entries reached. [`mod@work`] does any of these for a range of
+//! seeds, on threads.
 
 mod bodies;
 mod borders;
@@ -13,6 +15,9 @@ mod check;
 mod guarded;
 mod parameters;
 mod planes;
+mod program;
+mod recording_statistics;
+mod recordings;
 mod rectangles;
 pub mod round_trip;
 mod statistics;
@@ -24,4 +29,7 @@ pub use check::{
     Job, Outcome,
 };
 pub use planes::{plane_of_kind, safe_size, PlaneKind};
+pub use program::{first_difference, Program};
+pub use recording_statistics::RecordingStatistics;
+pub use recordings::{check_recording, Recording, RecordingKind};
 pub use statistics::Statistics;

@@ -1,8 +1,14 @@
-//! The command: compares a great many components, or makes round trips.
+//! The command: compares a great many components or recordings, or makes round trips.
 
 use compare::round_trip::{RoundTrip, RoundTrips};
 use compare::work::{Failure, Work, ENOUGH_FAILURES};
-use compare::{check, proved, reference, results, Case, Job, Statistics};
+use compare::{
+    check, check_recording, proved, reference, results, Case, Job, Program, Recording,
+    RecordingStatistics, Statistics,
+};
+use reference::read_recording;
+use std::fmt::Display;
+use std::path::Path;
 use std::process::ExitCode;
 use std::time::Instant;
 use vectors::command_line;
@@ -10,6 +16,7 @@ use vectors::command_line;
 const USAGE: &str = "usage: compare COUNT [SEED] [--threads N]
        compare --seed SEED --count COUNT [--threads N]
        compare --round-trips COUNT [SEED] [--threads N]
+       compare --recordings COUNT [SEED] [--threads N] --program PATH
 
 Compares the proved library with the independent decoder on COUNT components made
 from the seeds SEED, SEED + 1 and on: unpack, synthesise and decode, status, place,
@@ -20,52 +27,92 @@ answers.
 With --round-trips the independent decoder analyses COUNT planes, and the proved
 library must give each back whose analysis fits 32 bits.
 
+With --recordings the program at PATH is run on COUNT recordings, each on its
+standard input, and must write what the independent decoder gives, byte by byte, and
+nothing on its standard error. A COUNT of 1 prints the recording in hexadecimal,
+which `xxd -r -p` turns into a file, and what is written for it.
+
 Exit status: 0 no difference; 1 a difference, or an answer or a place of it that
-fewer than one in 1000 components gave (one in 500 round trips), too rare to mean
-anything; 2 a wrong command line.
+fewer than one in 1000 components gave (one in 500 round trips or entries of
+recordings), too rare to mean anything; 2 a wrong command line.
 ";
+
+/// What is compared.
+enum Subject {
+    Components,
+    RoundTrips,
+    Recordings(Program),
+}
 
 /// What the command line asks for.
 struct Request {
-    round_trips: bool,
+    subject: Subject,
     work: Work,
 }
 
 /// Reads the command line, or says what is wrong with it.
 fn read_request(words: &[&str]) -> Result<Request, String> {
-    let mut round_trips = false;
+    let (mut subject, mut program) = (None, None);
     let (mut count, mut seed, mut threads) = (None, None, None);
     let mut words = words.iter();
-    while let Some(word) = words.next() {
-        let (slot, value) = match *word {
-            "--round-trips" => {
-                round_trips = true;
+    while let Some(&word) = words.next() {
+        let (slot, value) = match word {
+            "--round-trips" | "--recordings" => {
+                put(&mut subject, word)?;
+                continue;
+            }
+            "--program" => {
+                put(&mut program, *words.next().ok_or("--program needs a path")?)?;
                 continue;
             }
             "--count" => (&mut count, words.next()),
             "--seed" => (&mut seed, words.next()),
             "--threads" => (&mut threads, words.next()),
             _ if word.starts_with('-') => return Err(format!("no such option: {word}")),
-            _ if count.is_none() => (&mut count, Some(word)),
-            _ => (&mut seed, Some(word)),
+            _ if count.is_none() => (&mut count, Some(&word)),
+            _ => (&mut seed, Some(&word)),
         };
         let value = value.ok_or(format!("{word} needs a number"))?;
-        if slot.replace(command_line::number(value)?).is_some() {
-            return Err(format!("one number too many: {value}"));
-        }
+        put(slot, command_line::number(value)?)?;
     }
+    Ok(Request {
+        subject: read_subject(subject, program)?,
+        work: read_work(count, seed, threads)?,
+    })
+}
+
+/// Puts a value where none was given yet.
+fn put<T: Copy + Display>(slot: &mut Option<T>, value: T) -> Result<(), String> {
+    match slot.replace(value) {
+        Some(_) => Err(format!("one too many: {value}")),
+        None => Ok(()),
+    }
+}
+
+/// What is compared, by the option that says so and the path of the program.
+fn read_subject(option: Option<&str>, program: Option<&str>) -> Result<Subject, String> {
+    match (option, program) {
+        (None, None) => Ok(Subject::Components),
+        (Some("--round-trips"), None) => Ok(Subject::RoundTrips),
+        (Some("--recordings"), Some(path)) if Path::new(path).is_file() => {
+            Ok(Subject::Recordings(Program::new(path)))
+        }
+        (Some("--recordings"), Some(path)) => Err(format!("no such program: {path}")),
+        _ => Err("--recordings and --program go together".to_string()),
+    }
+}
+
+/// Which seeds, and on how many threads.
+fn read_work(count: Option<u64>, seed: Option<u64>, threads: Option<u64>) -> Result<Work, String> {
     let count = count.ok_or("COUNT is missing")?;
     let threads = threads.unwrap_or(1);
     if count == 0 || threads == 0 || threads > 64 {
         return Err("COUNT is from 1 on, N from 1 to 64".to_string());
     }
-    Ok(Request {
-        round_trips,
-        work: Work {
-            first: seed.unwrap_or(1),
-            count,
-            threads: threads as usize,
-        },
+    Ok(Work {
+        first: seed.unwrap_or(1),
+        count,
+        threads: threads as usize,
     })
 }
 
@@ -75,18 +122,11 @@ fn main() -> ExitCode {
         Ok(request) => request,
         Err(status) => return status,
     };
-    let Request { round_trips, work } = request;
-    let print_one = work.count == 1;
-    let passed = if round_trips {
-        if print_one {
-            print_round_trip(work.first);
-        }
-        make_round_trips(&work)
-    } else {
-        if print_one {
-            print_case(&Case::from_seed(work.first));
-        }
-        compare_components(&work)
+    let Request { subject, work } = request;
+    let passed = match subject {
+        Subject::Components => compare_components(&work),
+        Subject::RoundTrips => make_round_trips(&work),
+        Subject::Recordings(program) => compare_recordings(&work, &program),
     };
     if passed {
         ExitCode::SUCCESS
@@ -97,6 +137,9 @@ fn main() -> ExitCode {
 
 /// Compares components and prints what they reached; answers whether all is well.
 fn compare_components(work: &Work) -> bool {
+    if work.count == 1 {
+        print_case(&Case::from_seed(work.first));
+    }
     let start = Instant::now();
     let (statistics, failures) = work.run(true, |seed, statistics: &mut Statistics| {
         let answers = check(&Case::from_seed(seed), proved).map_err(|error| error.to_string())?;
@@ -118,6 +161,9 @@ fn compare_components(work: &Work) -> bool {
 
 /// Makes round trips and prints what they reached; answers whether all is well.
 fn make_round_trips(work: &Work) -> bool {
+    if work.count == 1 {
+        print_round_trip(work.first);
+    }
     let start = Instant::now();
     let (trips, failures) = work.run(true, |seed, trips: &mut RoundTrips| {
         let trip = RoundTrip::from_seed(seed);
@@ -135,6 +181,32 @@ fn make_round_trips(work: &Work) -> bool {
         RoundTrips::ONE_IN,
         &failures,
         &trips.too_rare(),
+    )
+}
+
+/// Compares what the program writes for recordings and prints what they reached; answers whether all is
+/// well.
+fn compare_recordings(work: &Work, program: &Program) -> bool {
+    if work.count == 1 {
+        print_recording(&Recording::from_seed(work.first), program);
+    }
+    let start = Instant::now();
+    let (statistics, failures) = work.run(true, |seed, statistics: &mut RecordingStatistics| {
+        let file = Recording::from_seed(seed).file;
+        let text = check_recording(&file, |file| program.text(file))?;
+        statistics.add(&file, &text);
+        Ok(())
+    });
+    if work.count > 1 {
+        print!("{statistics}");
+    }
+    report(
+        work,
+        "recordings",
+        start,
+        RecordingStatistics::ONE_IN,
+        &failures,
+        &statistics.too_rare(),
     )
 }
 
@@ -201,4 +273,21 @@ fn print_round_trip(seed: u64) {
         "analyse {} {} {} {}{numbers}",
         p.width, p.height, p.depth, p.wavelet
     );
+}
+
+/// Prints a recording in full, and what the program and the reference make of it.
+fn print_recording(recording: &Recording, program: &Program) {
+    println!("seed {}, kind {:?}", recording.seed, recording.kind);
+    println!("{}", recording.hex());
+    let ours = program.text(&recording.file);
+    let theirs = read_recording(&recording.file);
+    match &ours {
+        Ok(text) => print!("the program writes:\n{}", String::from_utf8_lossy(text)),
+        Err(error) => println!("{error}"),
+    }
+    if ours.is_ok_and(|ours| ours == theirs.as_bytes()) {
+        println!("the reference gives the same");
+    } else {
+        print!("the reference gives:\n{theirs}");
+    }
 }

@@ -1,5 +1,7 @@
 //! The command line.
 
+use compare::Recording;
+use reference::read_recording;
 use std::process::{Command, Output};
 
 /// Runs the command.
@@ -56,6 +58,50 @@ fn round_trips_print_a_table_and_a_verdict() {
     assert!(text.starts_with("seed 9\nanalyse "));
 }
 
+/// The path of a stand-in for the program.
+fn stand_in(name: &str) -> String {
+    format!("{}/tests/programs/{name}", env!("CARGO_MANIFEST_DIR"))
+}
+
+#[test]
+fn recordings_print_a_table_and_the_differences() {
+    let words = ["--recordings", "100", "--threads", "2", "--program"];
+    let (code, text) = outcome(&[&words[..], &[&stand_in("refuses-all")]].concat());
+    assert_eq!(code, Some(1));
+    assert!(text.starts_with("status                       entries  recordings\n0 accepted "));
+    assert!(text.contains("\nDIFFERENCE at seed 1: entry 0, line 1 from column 1 on is "));
+    let last = text.lines().last().unwrap();
+    assert!(last.starts_with("100 recordings, seeds 1 to 100: "));
+}
+
+#[test]
+fn one_recording_is_printed_in_full() {
+    let recording = Recording::from_seed(9);
+    let expected = read_recording(&recording.file);
+    let file = format!("{}/recording-9.txt", env!("CARGO_TARGET_TMPDIR"));
+    std::fs::write(&file, &expected).unwrap();
+    let given = |name: &str| {
+        let output = Command::new(env!("CARGO_BIN_EXE_compare"))
+            .args(["--recordings", "1", "9", "--program", &stand_in(name)])
+            .env("TEXT", &file)
+            .output()
+            .unwrap();
+        (
+            output.status.code(),
+            String::from_utf8(output.stdout).unwrap(),
+        )
+    };
+    let start = format!("seed 9, kind {:?}\n{}\n", recording.kind, recording.hex());
+    let same = "the reference gives the same\nseed 9: no difference\n";
+    let text = format!("{start}the program writes:\n{expected}{same}");
+    assert_eq!(given("gives-text"), (Some(0), text));
+    let (code, text) = given("refuses-all");
+    assert_eq!(code, Some(1));
+    let both = format!("the program writes:\nrefused 11\nthe reference gives:\n{expected}");
+    assert!(text.starts_with(&[start, both].concat()), "{text}");
+    assert!(text.contains("\nDIFFERENCE at seed 9: entry 0, line 1 "));
+}
+
 #[test]
 fn wrong_command_lines_print_the_usage() {
     for words in [
@@ -68,6 +114,19 @@ fn wrong_command_lines_print_the_usage() {
         &["--count"],
         &["10", "--threads", "0"],
         &["10", "--fast"],
+        &["--recordings", "10"],
+        &["--recordings", "10", "--program"],
+        &["--recordings", "10", "--program", "no-such-program"],
+        &["--recordings", "--program", "/bin/cat"],
+        &[
+            "--recordings",
+            "--round-trips",
+            "10",
+            "--program",
+            "/bin/cat",
+        ],
+        &["--round-trips", "10", "--program", "/bin/cat"],
+        &["10", "--program", "/bin/cat"],
         &["18446744073709551616"],
     ] {
         let output = run(words);

@@ -8,6 +8,8 @@ mod fast_paths;
 mod fast_rectangles;
 mod fences;
 mod generator;
+mod program;
+mod recordings;
 mod rectangles;
 mod threads;
 mod wrong_decoders;
