@@ -102,7 +102,12 @@ KafsillunAnswer kafsillun_synthesise(
 #ifndef KAFSILLUN_SYNTHESISE_ONLY
 
 /*
- * Reads the coefficients of a component from its bytes. Bytes after those used do not matter.
+ * Bytes after those used do not matter to the two functions below. Whether some are left over is for the caller to judge, who compares the
+ * place of an acceptance with bytes_length. The program that decodes recordings refuses an entry with left-over bytes, by the number 12.
+ */
+
+/*
+ * Reads the coefficients of a component from its bytes.
  *
  * Gives 0, 1, 2, 4, 5 or 6 to 9. After 0 the coefficients are as unpacked; after 1, 2, 4 and 5 they are as they were; after 6 to 9 they are
  * all zeros.
@@ -113,7 +118,7 @@ KafsillunAnswer kafsillun_unpack(
     int32_t *coefficients, size_t coefficients_length);
 
 /*
- * Reads the coefficients of a component from its bytes and makes samples of them. Bytes after those used do not matter.
+ * Reads the coefficients of a component from its bytes and makes samples of them.
  *
  * Gives 0 to 10. After 0 the coefficients are as unpacked, the samples as synthesised, and work is all zeros; after 1 to 5 all three planes
  * are as they were; after 6 to 10 all three are all zeros.

@@ -1,5 +1,5 @@
 /*
- * Decodes a component of 2 by 2 samples, then refuses the same bytes with the last one missing.
+ * Decodes a component of 2 by 2 samples, then the same bytes with the last one missing and with one more behind them.
  *
  * Build:  cc example.c libkafsillun.a -o example
  * example.txt is what it prints.
@@ -12,8 +12,8 @@
 /* One level of the transform, wavelet index 3, intra, one codeblock at each level. */
 static const KafsillunParameters parameters = {2, 2, 1, 3, 1, {1, 1, 1, 1, 1}, {1, 1, 1, 1, 1}};
 
-/* Four subbands: a length and a quantiser index in a byte, then a byte of data. */
-static const uint8_t bytes[] = {0x30, 0x16, 0x30, 0x18, 0x30, 0x70, 0x30, 0x20};
+/* Four subbands: a length and a quantiser index in a byte, then a byte of data. Then a byte that is not of the component. */
+static const uint8_t bytes[] = {0x30, 0x16, 0x30, 0x18, 0x30, 0x70, 0x30, 0x20, 0x00};
 
 static void print_plane(const char *name, const int32_t plane[4])
 {
@@ -28,7 +28,7 @@ static void decode_and_print(size_t length)
     KafsillunAnswer answer = kafsillun_decode(parameters, bytes, length, coefficients, 4, work, 4, samples, 4);
 
     if (answer.status == KAFSILLUN_ACCEPTED) {
-        printf("accepted, %zu bytes used\n", answer.place);
+        printf("accepted, %zu bytes used, %zu left over\n", answer.place, length - answer.place);
     } else {
         printf("refused %" PRIu32 " place %zu\n", answer.status, answer.place);
         if (answer.status <= KAFSILLUN_PLANE_REFUSED) {
@@ -41,7 +41,8 @@ static void decode_and_print(size_t length)
 
 int main(void)
 {
-    decode_and_print(sizeof bytes);
-    decode_and_print(sizeof bytes - 1);
+    decode_and_print(8);
+    decode_and_print(7);
+    decode_and_print(9);
     return 0;
 }

@@ -2,15 +2,16 @@
 -- Assumes nothing.
 use mathlib.Core.Path.{_≡_, refl, sym, ap, _∙_}
 use mathlib.Core.Logic.{_≢_}
-use mathlib.Core.Bool.{true}
+use mathlib.Core.Bool.{true, not}
 use mathlib.Core.List.{List}
 use Prim.Native.Nat.{ℕ, zero, suc, _*_, _≤_, _<_}
 use native.Mathlib.Decide.{ℕ-discrete}
 use native.Mathlib.Omega.{arith}
+use lib.Dec.{eqb}
 use lib.IntN.{ℤ}
 use lib.ListN.{length, length-replicate}
-use borrow.Author.Tests.{ne-eqb}
-use Rattle.base.proofs.Booleans.{cond-most}
+use borrow.Author.Tests.{eq-eqb, ne-eqb}
+use Rattle.base.proofs.Booleans.{and-false, cond-most}
 use Rattle.component.specs.Checks.{areaOf, planesFit, refusalOf, lengthsOf, sizesInRange, depthInRange}
 use Rattle.component.specs.declared.parameters.Parameters.{Parameters}
 use Rattle.component.specs.declared.parameters.Answer.{Answer}
@@ -45,11 +46,19 @@ module _ (p : Parameters) where
   pub sample-most : sampleLength p ≤ 16384
   sample-most = cond-most (fitsProgram p) (p .width * p .height) 16384 (λ fits. omega (arith, samples-fewer p, fits-area fits))
 
--- what decode refuses keeps its number
+-- the status of an entry, case by case
 module _ (status place size : ℕ) where
   pub refusal-kept : status ≢ 0 → entryStatus status place size ≡ status
   unfolding entryStatus
   refusal-kept some = rw (ne-eqb status 0 some)
+
+  pub all-used : place ≡ size → entryStatus status place size ≡ status
+  unfolding entryStatus
+  all-used used = rw (and-false (eqb status 0) (not (eqb place size)) (ap not (eq-eqb place size used)))
+
+  pub left-over : status ≡ 0 → place ≢ size → entryStatus status place size ≡ 12
+  unfolding entryStatus
+  left-over none other = rw (eq-eqb status 0 none, ne-eqb place size other)
 
   -- so what is accepted was accepted by decode
   pub entry-accepted : entryStatus status place size ≡ 0 → status ≡ 0
@@ -93,11 +102,11 @@ module _ (p : Parameters) (bytes : List ℕ) (coefficients work samples : List �
   -- so they are the same whatever stood in the planes that a call was passed
   module _ (lc : length coefficients ≡ planeLength p) (lw : length work ≡ planeLength p) (ls : length samples ≡ sampleLength p) where
     pub lines-of : (k : ℕ) (answer : Answer) (c w s : List ℤ) → outcome answer c w s ≡ decoded p bytes coefficients work samples →
-        (status : ℕ) → status ≡ entryStatus (answer .status) (answer .place) (length bytes) →
-        entryLines k p status (answer .place) s ≡ bodyLines k p bytes
+        (entry : Answer) → entry .status ≡ entryStatus (answer .status) (answer .place) (length bytes) → entry .place ≡ answer .place →
+        entryLines k p (entry .status) (entry .place) s ≡ bodyLines k p bytes
     unfolding outcome entryDecoded
-    lines-of k answer c w s told status is =
-        ap (λ (n : ℕ). entryLines k p n (answer .place) s) is
+    lines-of k answer c w s told entry status place =
+        rw (status, place) refl
         ∙ ap (λ (d : DecodeResult). resultLines k p (length bytes) d) told
         ∙ sym (lines-free k _ _ _ (length-replicate _ _ ∙ sym lc) (length-replicate _ _ ∙ sym lw) (length-replicate _ _ ∙ sym ls))
 

@@ -106,21 +106,22 @@ fn decoded_text(
     ensures { λ r. ⌜ r ≤ 204800 ⌝ }
 {
     let answer = decode(p, body, coefficients, work, samples);
-    let status = entry_status(answer, body.len());
-    let place = answer.place;
-    put_entry(text, k, p, Answer { status, place }, samples)
+    put_entry(text, k, p, entry_answer(answer, body.len()), samples)
 }
 
-// The status of an entry whose body has so many bytes, from what decode answered: 12 where bytes of an accepted one are left over.
-fn entry_status(answer: Answer, size: usize) -> u32
-    ensures { λ r. ⌜ r ≡ entryStatus (answer .status) (answer .place) size ⌝ }
+// The answer for an entry whose body has so many bytes, from what decode answered: 12 where bytes of an accepted one are left over.
+fn entry_answer(answer: Answer, size: usize) -> Answer
+    ensures { λ r. ⌜ r .status ≡ entryStatus (answer .status) (answer .place) size ⌝ }
+    ensures { λ r. ⌜ r .place ≡ answer .place ⌝ }
 {
     if answer.status != ACCEPTED {
-        return answer.status;
+        return answer;
     }
     if answer.place == size {
-        ACCEPTED
-    } else {
-        BYTES_LEFT_OVER
+        return answer;
+    }
+    Answer {
+        status: BYTES_LEFT_OVER,
+        place: answer.place,
     }
 }

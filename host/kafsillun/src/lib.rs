@@ -19,7 +19,7 @@
 //! let mut work = vec![0; p.padded_area()?];
 //! let mut samples = vec![0; p.sample_area()?];
 //! let used = decode(&p, &bytes, &mut coefficients, &mut work, &mut samples)?;
-//! assert_eq!(used, 8);
+//! assert_eq!(used, bytes.len()); // else some are left over
 //! assert_eq!(coefficients, [10, 4, -2, 1]);
 //! assert_eq!(samples, [9, 12, 7, 11]);
 //! # Ok(())
@@ -38,6 +38,10 @@
 //! | refused 6 to 10 | zeros | zeros | zeros |
 //!
 //! This is about the planes a job may write: [`synthesise`] never changes the coefficients.
+//!
+//! Bytes left over are no fault of a component: [`unpack`] and [`decode`] give the number of bytes used,
+//! and the caller knows how many there should be. The program that decodes recordings refuses a body
+//! that is not used to its end, as 12.
 //!
 //! The library has no state, so threads may run jobs at once. A job needs some 32 KiB of stack.
 

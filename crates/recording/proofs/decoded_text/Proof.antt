@@ -12,8 +12,8 @@ use Rattle.recording.proofs.decoded_text.Tie as tie
 decode-requires : tie.Need-decode-requires
 decode-requires c κs = search needs
 
-entry-status-requires : tie.Need-entry-status-requires
-entry-status-requires c κs = search needs
+entry-answer-requires : tie.Need-entry-answer-requires
+entry-answer-requires c κs = search needs
 
 put-entry-requires : tie.Need-put-entry-requires
 unfolding outcome
@@ -22,7 +22,7 @@ put-entry-requires c κs =
     let call = c .before .before .before .before .before .before .decode in (
       start .pre .1,
       λ fine.
-          let decoded = entry-accepted _ _ _ (sym (c .before .before .entry-status .ensures) ∙ fine) in
+          let decoded = entry-accepted _ _ _ (sym (c .before .entry-answer .ensures .0) ∙ fine) in
           let fit = samples-fit _ _ _ _ _ (start .pre .0 .0) (sym (ap (λ (d : DecodeResult). d .status) (call .ensures)) ∙ decoded) in
           (call .kept .1 .1 .1 .1 .0 ∙ fit .0, fit .1, fit .2),
     )
@@ -44,7 +44,8 @@ returns c =
     let start = c .before .before .before .before .before .before .before .before .before .before .before .before .before .before .before in
     let call = c .before .before .before .before .before .before .before .before .before .decode in
     let put = c .before .before .put-entry .ensures in
-    let same = lines-of _ _ _ _ _ (start .pre .0 .0) (start .pre .0 .1) (start .pre .0 .2) (start .args .k) (call .result) _ _ _ (call .ensures) _ (c .before .before .before .before .before .entry-status .ensures) in
+    let entry = c .before .before .before .before .entry-answer in
+    let same = lines-of _ _ _ _ _ (start .pre .0 .0) (start .pre .0 .1) (start .pre .0 .2) (start .args .k) (call .result) _ _ _ (call .ensures) (entry .result) (entry .ensures .0) (entry .ensures .1) in
     (put-same _ (now (start .args .text)) _ _ _ _ same (put .0), put .1)
 
 pub decoded-text-spec : {M : Type 1} → statement M
@@ -52,7 +53,7 @@ decoded-text-spec =
     tie.close
     (tie.spec
     decode-requires
-    entry-status-requires
+    entry-answer-requires
     put-entry-requires
     same-length
     same-length-2
