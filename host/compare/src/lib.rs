@@ -31,5 +31,5 @@ pub use check::{
 pub use planes::{plane_of_kind, safe_size, PlaneKind};
 pub use program::{first_difference, Program};
 pub use recording_statistics::RecordingStatistics;
-pub use recordings::{check_recording, Recording, RecordingKind};
+pub use recordings::{check_recording, unpack_entry, Recording, RecordingKind};
 pub use statistics::Statistics;

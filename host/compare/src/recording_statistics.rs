@@ -1,13 +1,11 @@
 //! What the recordings reached: how many entries were given each status.
 
+use crate::recordings::unpack_entry;
 use crate::work::Tally;
-use reference::params::{padded_area, ACCEPTED, SYNTHESIS_RANGE};
+use reference::params::{ACCEPTED, LEFT_OVER_BYTES, SYNTHESIS_RANGE};
 use reference::recording::{parse, Entry};
 use reference::Answer;
 use std::fmt;
-
-/// Status 12: the body has bytes behind those that were used (document 02, request One).
-const LEFT_OVER: u32 = 12;
 
 /// What is known of an entry.
 struct Reached {
@@ -138,8 +136,8 @@ fn answer_of(line: &str) -> Option<Answer> {
 fn reached(entry: &Entry, answer: Answer) -> Reached {
     let bytes = entry.body.len() as u64;
     let left_over = match answer.status {
-        LEFT_OVER => bytes.saturating_sub(answer.place),
-        SYNTHESIS_RANGE => bytes.saturating_sub(unpacked(entry).0.place),
+        LEFT_OVER_BYTES => bytes.saturating_sub(answer.place),
+        SYNTHESIS_RANGE => bytes.saturating_sub(unpack_entry(entry).0.place),
         _ => 0,
     };
     Reached {
@@ -149,21 +147,14 @@ fn reached(entry: &Entry, answer: Answer) -> Reached {
     }
 }
 
-/// What the reference's unpack answers to an entry whose parameters are in range, and the coefficients.
-fn unpacked(entry: &Entry) -> (Answer, Vec<i32>) {
-    let mut coefficients = vec![0; padded_area(&entry.parameters)];
-    let answer = reference::unpack(&entry.parameters, &entry.body, &mut coefficients);
-    (answer, coefficients)
-}
-
 /// Whether an accepted entry uses its body to the end, and unpacks to the same with another last byte.
 fn is_end_unread(entry: &Entry) -> bool {
-    let before = unpacked(entry);
+    let before = unpack_entry(entry);
     let mut changed = entry.clone();
     if let Some(last) = changed.body.last_mut() {
         *last = !*last;
     }
-    before.0.place == entry.body.len() as u64 && unpacked(&changed) == before
+    before.0.place == entry.body.len() as u64 && unpack_entry(&changed) == before
 }
 
 impl Tally for RecordingStatistics {

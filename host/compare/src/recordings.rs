@@ -12,7 +12,7 @@ use reference::params::{padded_area, subbands};
 use reference::recording::{
     read_recording, write_recording, Entry, ENTRY_BYTES, MAX_ENTRIES, MAX_FILE, MAX_PADDED_AREA,
 };
-use reference::Parameters;
+use reference::{Answer, Parameters};
 use vectors::pieces;
 use vectors::random::Random;
 
@@ -85,6 +85,13 @@ pub fn check_recording(
         Some(difference) => Err(difference),
         None => Ok(theirs),
     }
+}
+
+/// What the reference's unpack answers to an entry whose size and depth are in range, and the coefficients.
+pub fn unpack_entry(entry: &Entry) -> (Answer, Vec<i32>) {
+    let mut coefficients = vec![0; padded_area(&entry.parameters)];
+    let answer = reference::unpack(&entry.parameters, &entry.body, &mut coefficients);
+    (answer, coefficients)
 }
 
 /// The entries of a recording of a kind, most often few; their file is not too large.

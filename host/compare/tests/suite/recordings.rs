@@ -1,7 +1,6 @@
 //! Recordings: what they reach, and which programs they find out.
 
-use compare::{check_recording, Recording, RecordingKind, RecordingStatistics};
-use reference::params::padded_area;
+use compare::{check_recording, unpack_entry, Recording, RecordingKind, RecordingStatistics};
 use reference::recording::{parse, read_recording, Entry, ENTRY_BYTES, MAX_ENTRIES, MAX_FILE};
 use reference::{write_recording, Answer};
 use std::collections::{BTreeMap, BTreeSet};
@@ -35,33 +34,20 @@ fn with_answers(file: &[u8], answer: impl Fn(&Entry, &str) -> Option<Answer>) ->
         .collect()
 }
 
-/// What unpack answers to an entry whose size and depth are in range, and the coefficients.
-fn unpacked(entry: &Entry) -> (Answer, Vec<i32>) {
-    let mut coefficients = vec![0; padded_area(&entry.parameters)];
-    let answer = reference::unpack(&entry.parameters, &entry.body, &mut coefficients);
-    (answer, coefficients)
-}
-
-/// How many bytes an entry used, where these words are in what the text says of it and bytes are left over.
-fn used_of_more(entry: &Entry, part: &str, words: &[&str]) -> Option<u64> {
-    if !words.iter().any(|words| part.contains(words)) {
+/// How many bytes an entry used, where the text gives it a refusal and bytes are left over.
+fn used_of_more(entry: &Entry, part: &str, refusal: u32) -> Option<u64> {
+    if !part.contains(&format!(": refused {refusal} ")) {
         return None;
     }
-    let used = unpacked(entry).0.place;
+    let used = unpack_entry(entry).0.place;
     (used < entry.body.len() as u64).then_some(used)
-}
-
-/// Refusal 12 of an entry that is accepted but for the bytes that are left over.
-fn left_over(entry: &Entry, part: &str) -> Option<Answer> {
-    let used = used_of_more(entry, part, &[" x ", ": refused 12 "])?;
-    Some(Answer::refused(12, used))
 }
 
 #[test]
 fn every_answer_occurs() {
     let mut statistics = RecordingStatistics::default();
     for Recording { file, .. } in recordings(1500) {
-        statistics.add(&file, &with_answers(&file, left_over));
+        statistics.add(&file, &read_recording(&file));
     }
     assert!(statistics.entries() > 3000);
     assert_eq!(statistics.too_rare(), [""; 0]);
@@ -107,10 +93,10 @@ fn bytes_of_each_kind_are_left_over() {
         for (k, (entry, part)) in parts(&file).into_iter().enumerate() {
             let is_refused = part.ends_with(": refused 6 place 0\n");
             count("no body", entry.body.is_empty() && is_refused);
-            let Some(answer) = left_over(&entry, &part) else {
+            let Some(used) = used_of_more(&entry, &part, 12) else {
                 continue;
             };
-            let rest = &entry.body[answer.place as usize..];
+            let rest = &entry.body[used as usize..];
             count("zeros", rest.iter().all(|byte| *byte == 0x00));
             count("ones", rest.iter().all(|byte| *byte == 0xFF));
             let level_0 = &file[1 + ENTRY_BYTES * k..][8..10];
@@ -209,14 +195,32 @@ fn programs_that_write_another_text_are_found() {
 
 #[test]
 fn programs_that_tell_left_over_bytes_wrongly_are_found() {
-    // The place is how many are left.
+    // They are ignored.
+    assert!(is_found_out(|file| {
+        let mut entries: Vec<Entry> = Vec::new();
+        for (mut entry, part) in parts(file) {
+            if let Some(used) = used_of_more(&entry, &part, 12) {
+                entry.body.truncate(used as usize);
+            }
+            entries.push(entry);
+        }
+        match entries[..] {
+            [] => read_recording(file),
+            _ => read_recording(&write_recording(&entries)),
+        }
+    }));
+    // The place is how many are left, or the body's length.
     assert!(is_found_out(|file| with_answers(file, |entry, part| {
-        let used = left_over(entry, part)?.place;
+        let used = used_of_more(entry, part, 12)?;
         Some(Answer::refused(12, entry.body.len() as u64 - used))
+    })));
+    assert!(is_found_out(|file| with_answers(file, |entry, part| {
+        used_of_more(entry, part, 12)?;
+        Some(Answer::refused(12, entry.body.len() as u64))
     })));
     // They come before synthesis.
     assert!(is_found_out(|file| with_answers(file, |entry, part| {
-        let used = used_of_more(entry, part, &[": refused 10 "])?;
+        let used = used_of_more(entry, part, 10)?;
         Some(Answer::refused(12, used))
     })));
     // The last byte of a stated length is left over where it is not read.
@@ -226,7 +230,7 @@ fn programs_that_tell_left_over_bytes_wrongly_are_found() {
             body: [rest, &[!last]].concat(),
             ..entry.clone()
         };
-        let is_unread = part.contains(" x ") && unpacked(&changed) == unpacked(entry);
+        let is_unread = part.contains(" x ") && unpack_entry(&changed) == unpack_entry(entry);
         is_unread.then_some(Answer::refused(12, rest.len() as u64))
     })));
 }
