@@ -1,4 +1,4 @@
--- Laws of the output: the planes of an entry, what decode gives for it, and texts one after the other.
+-- Laws of the output: the planes of an entry, its status, what decode gives for it, and texts one after the other.
 -- Assumes nothing.
 use mathlib.Core.Path.{_≡_, refl, sym, ap, _∙_}
 use mathlib.Core.Logic.{_≢_}

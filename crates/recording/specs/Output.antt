@@ -28,8 +28,9 @@ unfoldable pub entryDecoded : Parameters → List ℕ → DecodeResult
 entryDecoded p bytes =
     decoded p bytes (replicate (planeLength p) (pos 0)) (replicate (planeLength p) (pos 0)) (replicate (sampleLength p) (pos 0))
 
--- "refuse an entry whose component is accepted but doesn't use the whole body": "12, place = bytes used, after 10". From the status and place
--- that decode gave, and how many bytes the body has: what decode refuses keeps its number, and the place is decode's.
+-- Document 02: "refuse an entry whose component is accepted but doesn't use the whole body"; "12, place = bytes used, after 10". From the status
+-- and place that decode gave, and how many bytes the body has: what decode refuses keeps its number. "The library jobs keep answering bytes
+-- used", and that is the place of an acceptance and of a 12.
 unfoldable pub entryStatus : ℕ → ℕ → ℕ → ℕ
 entryStatus status place size = cond (eqb status 0 && not (eqb place size)) 12 status
 

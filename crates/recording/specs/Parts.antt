@@ -11,5 +11,6 @@ use Rattle.recording.specs.Output.{entryText}
 unfoldable pub partCount : ℕ → ℕ
 partCount entries = cond (eqb entries 0) 1 entries
 
+-- Part k of them, for k below that count.
 unfoldable pub part : List ℕ → ℕ → List ℕ
 part file k = cond (eqb (entryCount file) 0) (ascii "refused 11\n") (entryText file k)

@@ -39,7 +39,7 @@ pub fn part_count(entries: usize) -> usize
 }
 
 // Puts part k of what a file with so many entries decodes to at the start of the text, and answers how long it is. The planes may hold
-// anything before and after.
+// anything before and after, and the text anything behind the part.
 pub fn output_part(
     file: &[u8],
     entries: usize,
@@ -109,7 +109,8 @@ fn decoded_text(
     put_entry(text, k, p, entry_answer(answer, body.len()), samples)
 }
 
-// The answer for an entry whose body has so many bytes, from what decode answered: 12 where bytes of an accepted one are left over.
+// Document 02, "Left-over bytes are a fault": the answer for an entry whose body has so many bytes, from what decode answered. It is 12 where
+// bytes of an accepted one are left over, and the place is decode's.
 fn entry_answer(answer: Answer, size: usize) -> Answer
     ensures { λ r. ⌜ r .status ≡ entryStatus (answer .status) (answer .place) size ⌝ }
     ensures { λ r. ⌜ r .place ≡ answer .place ⌝ }

@@ -34,6 +34,7 @@ use Rattle.text.specs.Text.{ascii, digitsWithin, decimal, signedText, spaced, r
 use Rattle.recording.specs.Output.{fitsProgram, entryDecoded, entryStatus, heading, sizeText, pictureText, refusalText, entryLines, bodyLines, entryText, joined, output}
 use Rattle.contents.proofs.WholeCase.{wholeCase}
 
+-- both by one computation
 computed :
     (output wholeCase ≡ ascii "entry 0: 2 x 2\n9 12\n7 11\n")
     × (bodyLines 0 (parametersAt wholeCase 0) (body wholeCase 0 ++ (0 ∷ [])) ≡ ascii "entry 0: refused 12 place 8\n")
@@ -43,6 +44,6 @@ computed = (refl, refl)
 pub whole-case-output : output wholeCase ≡ ascii "entry 0: 2 x 2\n9 12\n7 11\n"
 whole-case-output = computed .0
 
--- the same body with one byte more is refused at the eighth
+-- the same body with one byte more: 12, and the place is the 8 bytes used
 pub left-over-output : bodyLines 0 (parametersAt wholeCase 0) (body wholeCase 0 ++ (0 ∷ [])) ≡ ascii "entry 0: refused 12 place 8\n"
 left-over-output = computed .1

@@ -1,7 +1,7 @@
 //! The command: compares a great many components or recordings, or makes round trips.
 
 use compare::round_trip::{RoundTrip, RoundTrips};
-use compare::work::{Failure, Work, ENOUGH_FAILURES};
+use compare::work::{Failure, Tally, Work, ENOUGH_FAILURES};
 use compare::{
     check, check_recording, proved, reference, results, Case, Job, Program, Recording,
     RecordingStatistics, Statistics,
@@ -140,23 +140,11 @@ fn compare_components(work: &Work) -> bool {
     if work.count == 1 {
         print_case(&Case::from_seed(work.first));
     }
-    let start = Instant::now();
-    let (statistics, failures) = work.run(true, |seed, statistics: &mut Statistics| {
+    run_all(work, "components", |seed, statistics: &mut Statistics| {
         let answers = check(&Case::from_seed(seed), proved).map_err(|error| error.to_string())?;
         statistics.add(&answers);
         Ok(())
-    });
-    if work.count > 1 {
-        print!("{statistics}");
-    }
-    report(
-        work,
-        "components",
-        start,
-        Statistics::ONE_IN,
-        &failures,
-        &statistics.too_rare(),
-    )
+    })
 }
 
 /// Makes round trips and prints what they reached; answers whether all is well.
@@ -164,24 +152,12 @@ fn make_round_trips(work: &Work) -> bool {
     if work.count == 1 {
         print_round_trip(work.first);
     }
-    let start = Instant::now();
-    let (trips, failures) = work.run(true, |seed, trips: &mut RoundTrips| {
+    run_all(work, "round trips", |seed, trips: &mut RoundTrips| {
         let trip = RoundTrip::from_seed(seed);
         let came_back = trip.run()?;
         trips.add(&trip, came_back);
         Ok(())
-    });
-    if work.count > 1 {
-        print!("{trips}");
-    }
-    report(
-        work,
-        "round trips",
-        start,
-        RoundTrips::ONE_IN,
-        &failures,
-        &trips.too_rare(),
-    )
+    })
 }
 
 /// Compares what the program writes for recordings and prints what they reached; answers whether all is
@@ -190,50 +166,38 @@ fn compare_recordings(work: &Work, program: &Program) -> bool {
     if work.count == 1 {
         print_recording(&Recording::from_seed(work.first), program);
     }
-    let start = Instant::now();
-    let (statistics, failures) = work.run(true, |seed, statistics: &mut RecordingStatistics| {
-        let file = Recording::from_seed(seed).file;
-        let text = check_recording(&file, |file| program.text(file))?;
-        statistics.add(&file, &text);
-        Ok(())
-    });
-    if work.count > 1 {
-        print!("{statistics}");
-    }
-    report(
+    run_all(
         work,
         "recordings",
-        start,
-        RecordingStatistics::ONE_IN,
-        &failures,
-        &statistics.too_rare(),
+        |seed, reached: &mut RecordingStatistics| {
+            let file = Recording::from_seed(seed).file;
+            let text = check_recording(&file, |file| program.text(file))?;
+            reached.add(&file, &text);
+            Ok(())
+        },
     )
 }
 
-/// Prints the failures and what was too rare, then a line that sums up; answers whether all is well.
-fn report(
+/// Runs a function on every seed and prints the table of what it counted, the failures, what was too rare
+/// and a line that sums up; answers whether all is well.
+fn run_all<T: Tally>(
     work: &Work,
     what: &str,
-    start: Instant,
-    one_in: u64,
-    failures: &[Failure],
-    too_rare: &[String],
+    one: impl Fn(u64, &mut T) -> Result<(), String> + Sync,
 ) -> bool {
-    for failure in failures {
+    let start = Instant::now();
+    let (tally, failures) = work.run(true, one);
+    let too_rare = tally.too_rare();
+    if work.count > 1 {
+        print!("{tally}");
+    }
+    for failure in &failures {
         println!("DIFFERENCE at seed {}: {}", failure.seed, failure.what);
     }
-    for line in too_rare {
-        println!("TOO RARE (below one in {one_in}): {line}");
+    for line in &too_rare {
+        println!("TOO RARE (below one in {}): {line}", T::ONE_IN);
     }
-    let verdict = if failures.len() >= ENOUGH_FAILURES {
-        format!("stopped after {} differences", failures.len())
-    } else if !failures.is_empty() {
-        format!("{} differences", failures.len())
-    } else if !too_rare.is_empty() {
-        "no difference, but some answers are too rare to mean anything".to_string()
-    } else {
-        "no difference".to_string()
-    };
+    let verdict = verdict(&failures, &too_rare);
     let seconds = start.elapsed().as_secs_f64();
     let Work { first, count, .. } = work;
     if *count == 1 {
@@ -243,6 +207,19 @@ fn report(
         println!("{count} {what}, seeds {first} to {last}: {verdict} ({seconds:.1} s)");
     }
     failures.is_empty() && too_rare.is_empty()
+}
+
+/// What came of it, in words.
+fn verdict(failures: &[Failure], too_rare: &[String]) -> String {
+    if failures.len() >= ENOUGH_FAILURES {
+        format!("stopped after {} differences", failures.len())
+    } else if !failures.is_empty() {
+        format!("{} differences", failures.len())
+    } else if !too_rare.is_empty() {
+        "no difference, but some answers are too rare to mean anything".to_string()
+    } else {
+        "no difference".to_string()
+    }
 }
 
 /// Prints a component in full: as jobs of the reference's command, and what each decoder makes of them.

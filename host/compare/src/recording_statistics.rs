@@ -78,9 +78,6 @@ pub struct RecordingStatistics {
 }
 
 impl RecordingStatistics {
-    /// One of so many entries must give each line of the table, and one of so many recordings the last.
-    pub const ONE_IN: u64 = 500;
-
     /// Adds a recording and the text that it gives.
     pub fn add(&mut self, file: &[u8], text: &str) {
         self.recordings += 1;
@@ -99,26 +96,6 @@ impl RecordingStatistics {
     /// How many entries there were.
     pub fn entries(&self) -> u64 {
         self.entries
-    }
-
-    /// What occurred less often than demanded, a line each.
-    pub fn too_rare(&self) -> Vec<String> {
-        let mut list = Vec::new();
-        let mut status_name = "";
-        for (line, &count) in LINES.iter().zip(&self.counts) {
-            let part = line.name.strip_prefix(' ').unwrap_or("");
-            if part.is_empty() {
-                status_name = line.name;
-            }
-            if count < self.entries / RecordingStatistics::ONE_IN {
-                list.push(format!("entries: {status_name}{part}: {count} times"));
-            }
-        }
-        if self.wrong_tables < self.recordings / RecordingStatistics::ONE_IN {
-            let count = self.wrong_tables;
-            list.push(format!("recordings: {WRONG_TABLE}: {count} times"));
-        }
-        list
     }
 }
 
@@ -158,6 +135,9 @@ fn is_end_unread(entry: &Entry) -> bool {
 }
 
 impl Tally for RecordingStatistics {
+    /// One of so many entries must give each line of the table, and one of so many recordings the last.
+    const ONE_IN: u64 = 500;
+
     fn merge(&mut self, other: &RecordingStatistics) {
         self.recordings += other.recordings;
         self.wrong_tables += other.wrong_tables;
@@ -165,6 +145,26 @@ impl Tally for RecordingStatistics {
         for (count, other) in self.counts.iter_mut().zip(other.counts) {
             *count += other;
         }
+    }
+
+    /// What occurred less often than demanded, a line each.
+    fn too_rare(&self) -> Vec<String> {
+        let mut list = Vec::new();
+        let mut status_name = "";
+        for (line, &count) in LINES.iter().zip(&self.counts) {
+            let part = line.name.strip_prefix(' ').unwrap_or("");
+            if part.is_empty() {
+                status_name = line.name;
+            }
+            if count < self.entries / RecordingStatistics::ONE_IN {
+                list.push(format!("entries: {status_name}{part}: {count} times"));
+            }
+        }
+        if self.wrong_tables < self.recordings / RecordingStatistics::ONE_IN {
+            let count = self.wrong_tables;
+            list.push(format!("recordings: {WRONG_TABLE}: {count} times"));
+        }
+        list
     }
 }
 

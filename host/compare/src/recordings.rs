@@ -15,15 +15,7 @@ use reference::recording::{
 use reference::{Answer, Parameters};
 use vectors::pieces;
 use vectors::random::Random;
-
-/// The byte of intra in an entry of the table.
-const INTRA: usize = 6;
-/// The byte of an entry that is 0.
-const ZERO: usize = 7;
-/// The first byte of an entry's offset.
-const OFFSET: usize = 18;
-/// The first byte of an entry's length.
-const LENGTH: usize = 22;
+use vectors::wrong_tables::{field, four, INTRA, LENGTH, OFFSET, ZERO};
 
 /// What a recording is made for.
 #[derive(Clone, Copy, Debug, PartialEq, Eq, PartialOrd, Ord)]
@@ -226,23 +218,17 @@ fn move_boundary(random: &mut Random, entries: &mut [Entry]) {
     entries[k + 1].body = second.to_vec();
 }
 
-/// Where a field of an entry lies in the file.
-fn field(entry: usize, at: usize) -> usize {
-    1 + ENTRY_BYTES * entry + at
-}
-
 /// Adds to a number of four bytes, which may wrap.
-fn add(file: &mut [u8], start: usize, number: u32) {
-    let field = &mut file[start..start + 4];
-    let old = u32::from_be_bytes(field.try_into().expect("four bytes"));
-    field.copy_from_slice(&old.wrapping_add(number).to_be_bytes());
+fn add_to_four(file: &mut [u8], start: usize, number: u32) {
+    let sum = four(file, start).wrapping_add(number);
+    file[start..start + 4].copy_from_slice(&sum.to_be_bytes());
 }
 
 /// Lengthens the last body so that the file has so many bytes.
 fn lengthen(random: &mut Random, file: &mut Vec<u8>, bytes: usize) {
     let last = usize::from(file[0]) - 1;
     let more = bytes - file.len();
-    add(file, field(last, LENGTH), more as u32);
+    add_to_four(file, field(last, LENGTH), more as u32);
     file.resize(bytes, random.pick(&[0, 0xFF, 0x80]));
 }
 
@@ -255,8 +241,8 @@ fn break_table(random: &mut Random, file: &mut Vec<u8>) {
         0 => file[0] = random.pick(&[0, 17, 255, count - 1, count + 1]),
         1 => file[field(entry, INTRA)] = random.range(2, 255) as u8,
         2 => file[field(entry, ZERO)] = random.range(1, 255) as u8,
-        3 => add(file, field(entry, OFFSET), random.pick(&WRONG_BY)),
-        4 => add(file, field(entry, LENGTH), random.pick(&WRONG_BY)),
+        3 => add_to_four(file, field(entry, OFFSET), random.pick(&WRONG_BY)),
+        4 => add_to_four(file, field(entry, LENGTH), random.pick(&WRONG_BY)),
         5 => {
             let one_less = file.len() as i64 - 1;
             let any = random.range(0, one_less);

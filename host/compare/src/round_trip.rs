@@ -129,9 +129,6 @@ pub struct RoundTrips {
 }
 
 impl RoundTrips {
-    /// One of so many planes must be of each wavelet and depth, of each size, and large.
-    pub const ONE_IN: u64 = 500;
-
     /// Adds a round trip, which came back or had an analysis that doesn't fit.
     pub fn add(&mut self, trip: &RoundTrip, came_back: bool) {
         self.tried += 1;
@@ -143,9 +140,25 @@ impl RoundTrips {
             self.large += u64::from(trip.bits() >= 24);
         }
     }
+}
+
+impl Tally for RoundTrips {
+    /// One of so many planes must be of each wavelet and depth, of each size, and large.
+    const ONE_IN: u64 = 500;
+
+    fn merge(&mut self, other: &RoundTrips) {
+        self.tried += other.tried;
+        self.came_back += other.came_back;
+        self.large += other.large;
+        let counts = self.by_filter.iter_mut().flatten().chain(&mut self.by_size);
+        let others = other.by_filter.iter().flatten().chain(&other.by_size);
+        for (count, other) in counts.zip(others) {
+            *count += other;
+        }
+    }
 
     /// What came back less often than demanded, a line each.
-    pub fn too_rare(&self) -> Vec<String> {
+    fn too_rare(&self) -> Vec<String> {
         let mut counts = vec![("numbers of 24 bits or more".to_string(), self.large)];
         for (size, count) in SIZES.iter().zip(self.by_size) {
             counts.push((size.to_string(), count));
@@ -160,19 +173,6 @@ impl RoundTrips {
             .filter(|(_, count)| *count < self.tried / RoundTrips::ONE_IN)
             .map(|(name, count)| format!("{name}: {count} times"))
             .collect()
-    }
-}
-
-impl Tally for RoundTrips {
-    fn merge(&mut self, other: &RoundTrips) {
-        self.tried += other.tried;
-        self.came_back += other.came_back;
-        self.large += other.large;
-        let counts = self.by_filter.iter_mut().flatten().chain(&mut self.by_size);
-        let others = other.by_filter.iter().flatten().chain(&other.by_size);
-        for (count, other) in counts.zip(others) {
-            *count += other;
-        }
     }
 }
 

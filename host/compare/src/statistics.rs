@@ -74,9 +74,6 @@ pub struct Statistics {
 }
 
 impl Statistics {
-    /// One of so many cases must give each line of the table.
-    pub const ONE_IN: u64 = 1000;
-
     /// Adds a case's answers.
     pub fn add(&mut self, answers: &Answers) {
         self.cases += 1;
@@ -96,9 +93,22 @@ impl Statistics {
     pub fn demanded(&self) -> u64 {
         self.cases / Statistics::ONE_IN
     }
+}
+
+impl Tally for Statistics {
+    /// One of so many cases must give each line of the table.
+    const ONE_IN: u64 = 1000;
+
+    fn merge(&mut self, other: &Statistics) {
+        self.cases += other.cases;
+        let counts = self.counts.iter_mut().flatten();
+        for (count, other) in counts.zip(other.counts.iter().flatten()) {
+            *count += other;
+        }
+    }
 
     /// What occurred less often than demanded, a line each.
-    pub fn too_rare(&self) -> Vec<String> {
+    fn too_rare(&self) -> Vec<String> {
         let mut list = Vec::new();
         let mut status_name = "";
         for (line, counts) in LINES.iter().zip(&self.counts) {
@@ -114,16 +124,6 @@ impl Statistics {
             }
         }
         list
-    }
-}
-
-impl Tally for Statistics {
-    fn merge(&mut self, other: &Statistics) {
-        self.cases += other.cases;
-        let counts = self.counts.iter_mut().flatten();
-        for (count, other) in counts.zip(other.counts.iter().flatten()) {
-            *count += other;
-        }
     }
 }
 

@@ -1,15 +1,22 @@
 //! Work over a range of seeds, on one thread or several.
 
+use std::fmt::Display;
 use std::io::{IsTerminal, Write};
 use std::panic::{catch_unwind, AssertUnwindSafe};
 use std::sync::atomic::{AtomicBool, AtomicU64, Ordering::Relaxed};
 use std::thread;
 use std::time::{Duration, Instant};
 
-/// What is counted over the seeds.
-pub trait Tally: Default + Send {
+/// What is counted over the seeds, which prints as a table.
+pub trait Tally: Default + Display + Send {
+    /// One of so many must be of each kind that is counted.
+    const ONE_IN: u64;
+
     /// Adds what another counted.
     fn merge(&mut self, other: &Self);
+
+    /// What occurred less often than demanded, a line each.
+    fn too_rare(&self) -> Vec<String>;
 }
 
 /// A seed that failed, and why.

@@ -1,7 +1,9 @@
 //! Stored recordings for refusal 12: entries that would be accepted, but don't use their whole body
 //! (document 02, "Left-over bytes are a fault"); and for its place in the order, after 1 to 10.
 //!
-//! Beside them are recordings of bodies that are used to their last byte, though only just.
+//! Beside them are recordings of bodies that are used to their last byte, though only just. One recording
+//! for 12, `refused-12-after-the-used-part`, is made with those of bytes that are not read, in
+//! [`crate::recording_vectors`].
 
 use crate::pieces::{
     bits, body_of_zeros, joined, numbers, plain, random_body, signed_numbers, subband_bytes,
@@ -279,7 +281,8 @@ fn pictures(random: &mut Random) -> Vec<Recording> {
     ]
 }
 
-/// Entries with left-over bytes beside others: accepted ones, refused ones, and the one whose bytes they are.
+/// Entries with left-over bytes beside others: accepted ones, refused ones, and the one whose bytes they
+/// are.
 fn neighbours(random: &mut Random) -> Vec<Recording> {
     let sixteen: Vec<Entry> = (0..16).map(|k| whole(random, k % 5, k)).collect();
     let longer: Vec<Entry> = (1..)
@@ -335,6 +338,11 @@ fn cut_anywhere() -> Vec<Entry> {
 /// Bytes that no subband states.
 const LEFT_OVER: [u8; 3] = [0x80, 0x00, 0xFF];
 
+/// The same entry with those behind its body.
+fn with_left_over(entry: Entry) -> Entry {
+    with_behind(entry, &LEFT_OVER)
+}
+
 /// Faults in a subband, the rest of the body being in order, and bytes left over behind it.
 const FAULTS_BEFORE_LEFT_OVER: [(&str, Fault); 5] = [
     // The length overruns by one all the bytes there are, which so aren't used.
@@ -362,8 +370,10 @@ fn orders(random: &mut Random) -> Vec<Recording> {
     for (name, fault) in FAULTS_BEFORE_LEFT_OVER {
         recordings.push(fault_recording(random, name, fault));
     }
-    let left_over = |entry: Entry| with_behind(entry, &LEFT_OVER);
-    let entries: Vec<Entry> = predicted_too_far().into_iter().map(left_over).collect();
+    let entries: Vec<Entry> = predicted_too_far()
+        .into_iter()
+        .map(with_left_over)
+        .collect();
     recordings.push(Recording::new("order-9-predicted-before-12", &entries));
     let mut jobs = Vec::new();
     for wavelet in 0..7 {
@@ -371,7 +381,11 @@ fn orders(random: &mut Random) -> Vec<Recording> {
         jobs.push(out_and_back(random, wavelet));
     }
     jobs.extend(in_the_padding());
-    let entries: Vec<Entry> = jobs.iter().map(synthesis_entry).map(left_over).collect();
+    let entries: Vec<Entry> = jobs
+        .iter()
+        .map(synthesis_entry)
+        .map(with_left_over)
+        .collect();
     recordings.push(Recording::new("order-10-before-12", &entries));
     recordings.extend(edges());
     recordings
@@ -411,11 +425,7 @@ fn edges() -> Vec<Recording> {
         bytes.push(entry_of(&p, joined(body, &LEFT_OVER)));
     }
     let jobs = edge_jobs();
-    bytes.extend(
-        jobs.iter()
-            .map(synthesis_entry)
-            .map(|entry| with_behind(entry, &LEFT_OVER)),
-    );
+    bytes.extend(jobs.iter().map(synthesis_entry).map(with_left_over));
     vec![
         Recording::new("order-edges-of-1-2-3-5-before-12", &parameters),
         Recording::new("order-edges-of-6-to-10-before-12", &bytes),

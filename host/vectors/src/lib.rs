@@ -6,9 +6,9 @@
 //!
 //! [`mod@synthesis_vectors`] and [`mod@unpack_vectors`] make the stored jobs of the two proved programs
 //! of these names, [`recording_vectors`] (with [`mod@refused_recordings`], [`mod@left_over_recordings`] and
-//! [`wrong_tables`]) and [`mod@samples`] the stored recordings. They share the generator [`random`], the [`pieces`] of bodies,
-//! [`pictures`], [`levels`] of synthesis and [`runs`] of the three jobs. [`command_line`] is what all
-//! commands above the reference read theirs with.
+//! [`wrong_tables`]) and [`mod@samples`] the stored recordings. They share the generator [`random`], the
+//! [`pieces`] of bodies, [`pictures`], [`levels`] of synthesis and [`runs`] of the three jobs.
+//! [`command_line`] is what all commands above the reference read theirs with.
 
 pub mod command_line;
 pub mod left_over_recordings;

@@ -10,13 +10,13 @@ use reference::params::padded_area;
 use reference::recording::{write_recording, Entry, ENTRY_BYTES, MAX_ENTRIES, MAX_FILE};
 
 /// The byte of intra in an entry.
-const INTRA: usize = 6;
+pub const INTRA: usize = 6;
 /// The byte of an entry that is 0.
-const ZERO: usize = 7;
+pub const ZERO: usize = 7;
 /// The first byte of an entry's offset.
-const OFFSET: usize = 18;
+pub const OFFSET: usize = 18;
 /// The first byte of an entry's length.
-const LENGTH: usize = 22;
+pub const LENGTH: usize = 22;
 
 /// Every recording of this module.
 pub fn table_recordings() -> Vec<Recording> {
@@ -61,8 +61,8 @@ fn three() -> Vec<u8> {
     write_recording(&entries())
 }
 
-/// Where a field of an entry lies.
-fn field(entry: usize, at: usize) -> usize {
+/// Where a field of an entry lies in the file.
+pub fn field(entry: usize, at: usize) -> usize {
     1 + ENTRY_BYTES * entry + at
 }
 
@@ -75,7 +75,7 @@ fn with_byte(index: usize, byte: u8) -> Vec<u8> {
 }
 
 /// A number of four bytes.
-fn four(file: &[u8], start: usize) -> u32 {
+pub fn four(file: &[u8], start: usize) -> u32 {
     u32::from_be_bytes(file[start..start + 4].try_into().expect("four bytes"))
 }
 

@@ -1,6 +1,7 @@
 //! The proved library and the reference agree; the command does the same for many more.
 
 use compare::round_trip::{RoundTrip, RoundTrips};
+use compare::work::Tally;
 use compare::work::Work;
 use compare::{check, plane_of_kind, proved, Case, Kind, PlaneKind, Statistics};
 use reference::params::padded_area;

@@ -1,9 +1,11 @@
 //! Recordings: what they reach, and which programs they find out.
 
+use compare::work::Tally;
 use compare::{check_recording, unpack_entry, Recording, RecordingKind, RecordingStatistics};
 use reference::recording::{parse, read_recording, Entry, ENTRY_BYTES, MAX_ENTRIES, MAX_FILE};
 use reference::{write_recording, Answer};
 use std::collections::{BTreeMap, BTreeSet};
+use vectors::wrong_tables::{four, INTRA, LENGTH, OFFSET, ZERO};
 
 /// The first recordings.
 fn recordings(count: u64) -> impl Iterator<Item = Recording> {
@@ -130,20 +132,18 @@ fn with_rows(file: &[u8], change: impl FnMut(&mut [u8])) -> String {
     read_recording(&file)
 }
 
-/// A number of four bytes of a row.
-fn four(row: &[u8], at: usize) -> u32 {
-    u32::from_be_bytes(row[at..at + 4].try_into().unwrap())
-}
-
 #[test]
 fn programs_that_pass_over_a_byte_of_the_table_are_found() {
     assert!(!is_found_out(read_recording));
     // The byte that is 0, and all bits of intra but the last.
-    assert!(is_found_out(|file| with_rows(file, |row| row[7] = 0)));
-    assert!(is_found_out(|file| with_rows(file, |row| row[6] &= 1)));
+    assert!(is_found_out(|file| with_rows(file, |row| row[ZERO] = 0)));
+    assert!(is_found_out(|file| with_rows(file, |row| row[INTRA] &= 1)));
     // A count of 0 is 2.
     assert!(is_found_out(|file| with_rows(file, |row| {
-        for count in row[8..18].iter_mut().filter(|count| **count == 0) {
+        for count in row[ZERO + 1..OFFSET]
+            .iter_mut()
+            .filter(|count| **count == 0)
+        {
             *count = 2;
         }
     })));
@@ -154,8 +154,8 @@ fn programs_that_pass_over_an_offset_or_the_end_are_found() {
     fn takes_bodies_in_order(file: &[u8]) -> String {
         let mut next = 1 + ENTRY_BYTES as u32 * u32::from(*file.first().unwrap_or(&0));
         with_rows(file, |row| {
-            row[18..22].copy_from_slice(&next.to_be_bytes());
-            next = next.wrapping_add(four(row, 22));
+            row[OFFSET..LENGTH].copy_from_slice(&next.to_be_bytes());
+            next = next.wrapping_add(four(row, LENGTH));
         })
     }
     fn passes_over_bytes_behind(file: &[u8]) -> String {
@@ -163,7 +163,7 @@ fn programs_that_pass_over_an_offset_or_the_end_are_found() {
         let end = match file.get(..rows) {
             Some(table) if rows > 1 => {
                 let row = &table[rows - ENTRY_BYTES..];
-                four(row, 18).wrapping_add(four(row, 22)) as usize
+                four(row, OFFSET).wrapping_add(four(row, LENGTH)) as usize
             }
             _ => file.len(),
         };

@@ -3,7 +3,7 @@
 
 use crate::common::*;
 use reference::jobs::run_jobs;
-use reference::params::{padded_area, LEFT_OVER_BYTES};
+use reference::params::padded_area;
 use reference::recording::MAX_FILE;
 use reference::{
     encode_body, read_recording, write_recording, EncodeOptions, Entry, Parameters, SubbandOptions,
@@ -56,11 +56,6 @@ fn whole_bodies() -> Vec<(Parameters, Vec<u8>, &'static str)> {
             "2 x 1\n0 0\n",
         ),
     ]
-}
-
-#[test]
-fn the_number_is_12() {
-    assert_eq!(LEFT_OVER_BYTES, 12);
 }
 
 #[test]
