@@ -1,5 +1,5 @@
 // Runs synthesise on the jobs of the standard input and writes what each gives to the standard output. The independent decoder made the
-// stored input and the expected output, and says what they look like (host/reference/src/vectors.rs).
+// stored input and the expected output, and says what they look like (host/vectors/src/synthesis_vectors.rs).
 mod input;
 mod output;
 
@@ -71,7 +71,7 @@ fn run_job(p: Parameters, coefficients: &mut [i32], work: &mut [i32], samples: &
 
 // How many coefficients a job has, or 0 where a size or the depth is out of range or the plane is too large.
 fn coefficient_count(p: Parameters) -> usize
-    ensures { λ r. ⌜ (r ≤ 65536) × (1 ≤ r → (1 ≤ p .width) × (p .width * p .height ≤ r)) ⌝ }
+    ensures { λ r. ⌜ (r ≤ 65536) × (1 ≤ r → (1 ≤ p .width) × (p .width ≤ 4096) × (p .width * p .height ≤ r)) ⌝ }
 {
     if area_within(p, AREA_MOST) {
         padded_area(p)
@@ -82,7 +82,7 @@ fn coefficient_count(p: Parameters) -> usize
 
 // Synthesises in planes that hold something already, and writes the answer, the samples, and what is wrong with the planes.
 fn synthesise_and_print(p: Parameters, coefficients: &[i32], work: &mut [i32], samples: &mut [i32])
-    requires { ⌜ 1 ≤ p .width ⌝ }
+    requires { ⌜ (1 ≤ p .width) × (p .width ≤ 4096) ⌝ }
 {
     fill_plane(work, 7);
     fill_plane(samples, 7);

@@ -1,25 +1,26 @@
 // The text of the output: a line for each job, and a line for each row of samples.
 ghost use Prim.Native.Nat.{_≤_};
+ghost use lib.ListN.{length};
 use component::parameters::Answer;
 use component::parameters::Parameters;
+use libc::STDOUT_FILENO;
 use vector_io::end_line;
-use vector_io::print_named;
-use vector_io::print_row;
+use vector_io::end_with_row;
+use vector_io::put_answer;
+use vector_io::put_job;
 
 // Writes the line of a job and its answer.
 pub(crate) fn print_answer(p: Parameters, answer: Answer) {
-    print_named(b"", p.width as u64);
-    print_named(b"x", p.height as u64);
-    print_named(b" depth ", p.depth as u64);
-    print_named(b" wavelet ", p.wavelet as u64);
-    print_named(b": status ", answer.status as u64);
-    print_named(b" place ", answer.place as u64);
-    end_line();
+    let mut line = io::buffer();
+    let job = put_job(&mut line, 0, p);
+    let place = put_answer(&mut line, job, answer);
+    let end = end_line(&mut line, place);
+    io::write_all(STDOUT_FILENO, &line[..end]);
 }
 
 // Writes the rows of a picture, a line each.
 pub(crate) fn print_rows(samples: &[i32], width: usize)
-    requires { ⌜ 1 ≤ width ⌝ }
+    requires { ⌜ (1 ≤ width) × (width ≤ 4096) ⌝ }
 {
     let mut start = 0;
     while width <= samples.len() - start {
@@ -27,4 +28,13 @@ pub(crate) fn print_rows(samples: &[i32], width: usize)
         print_row(&samples[start..end]);
         start = end;
     }
+}
+
+// Writes a row as a line.
+fn print_row(row: &[i32])
+    requires { ⌜ length (now row) ≤ 4096 ⌝ }
+{
+    let mut line = io::large_buffer();
+    let end = end_with_row(&mut line, 0, row);
+    io::write_all(STDOUT_FILENO, &line[..end]);
 }

@@ -3,5 +3,6 @@ mod numbers;
 mod words;
 
 pub use numbers::put_decimal;
+pub use numbers::put_row;
 pub use numbers::put_rows;
 pub use words::put_word;

@@ -59,7 +59,7 @@ fn put_spaced(text: &mut [u8], at: usize, numbers: &[i32]) -> usize
 }
 
 // Puts a row of numbers as a line.
-fn put_row(text: &mut [u8], at: usize, numbers: &[i32]) -> usize
+pub fn put_row(text: &mut [u8], at: usize, numbers: &[i32]) -> usize
     requires { ⌜ at + 12 * length (now numbers) + 21 ≤ length (now text) ⌝ }
     ensures { λ r. ⌜ Put at (now (text .entry)) (rowText (now (numbers .entry))) r (now (text .exit)) ⌝ }
     ensures { λ r. ⌜ r ≤ at + 12 * length (now (numbers .entry)) + 1 ⌝ }

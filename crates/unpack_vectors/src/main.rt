@@ -1,5 +1,5 @@
 // Runs unpack on the jobs of the standard input and writes what each gives to the standard output. The independent decoder made the
-// stored input and the expected output, and says what they look like (host/reference/src/unpack_vectors.rs).
+// stored input and the expected output, and says what they look like (host/vectors/src/unpack_vectors.rs).
 mod input;
 mod output;
 
@@ -9,11 +9,11 @@ use crate::input::byte_count;
 use crate::input::parameters_of;
 use crate::input::plane_length;
 use crate::output::print_answer;
+use crate::output::print_plane;
 use component::parameters::Parameters;
 use libc::STDIN_FILENO;
 use vector_io::bad_input;
 use vector_io::fill_plane;
-use vector_io::print_row;
 
 // Runs the jobs of the input. A proved loop has to end, so this one counts its turns down, from a number that no run uses up.
 fn main() {
@@ -58,9 +58,11 @@ fn run_job(p: Parameters, count: usize, entries: usize, bytes: &mut [u8], plane:
 }
 
 // Unpacks into a plane that holds sevens, and writes the answer and the whole plane, as one row.
-fn unpack_and_print(p: Parameters, bytes: &[u8], plane: &mut [i32]) {
+fn unpack_and_print(p: Parameters, bytes: &[u8], plane: &mut [i32])
+    requires { ⌜ length (now plane) ≤ 4096 ⌝ }
+{
     fill_plane(plane, 7);
     let answer = unpack::unpack(p, bytes, plane);
     print_answer(p, bytes.len(), answer);
-    print_row(plane);
+    print_plane(plane);
 }

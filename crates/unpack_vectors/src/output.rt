@@ -1,18 +1,31 @@
-// The line of the output that says what a job was and what its answer is.
+// The two lines that a job gives: what it was with its answer, and its plane.
+ghost use Prim.Native.Nat.{_≤_};
+ghost use lib.ListN.{length};
 use component::parameters::Answer;
 use component::parameters::Parameters;
+use libc::STDOUT_FILENO;
 use vector_io::end_line;
-use vector_io::print_named;
+use vector_io::end_with_row;
+use vector_io::put_answer;
+use vector_io::put_job;
+use vector_io::put_named;
 
 // Writes the line of a job and its answer.
 pub(crate) fn print_answer(p: Parameters, bytes: usize, answer: Answer) {
-    print_named(b"", p.width as u64);
-    print_named(b"x", p.height as u64);
-    print_named(b" depth ", p.depth as u64);
-    print_named(b" wavelet ", p.wavelet as u64);
-    print_named(b" intra ", p.intra as u64);
-    print_named(b" bytes ", bytes as u64);
-    print_named(b": status ", answer.status as u64);
-    print_named(b" place ", answer.place as u64);
-    end_line();
+    let mut line = io::buffer();
+    let job = put_job(&mut line, 0, p);
+    let intra = put_named(&mut line, job, b" intra ", p.intra as u64);
+    let data = put_named(&mut line, intra, b" bytes ", bytes as u64);
+    let place = put_answer(&mut line, data, answer);
+    let end = end_line(&mut line, place);
+    io::write_all(STDOUT_FILENO, &line[..end]);
+}
+
+// Writes the whole plane as one row.
+pub(crate) fn print_plane(plane: &[i32])
+    requires { ⌜ length (now plane) ≤ 4096 ⌝ }
+{
+    let mut line = io::large_buffer();
+    let end = end_with_row(&mut line, 0, plane);
+    io::write_all(STDOUT_FILENO, &line[..end]);
 }

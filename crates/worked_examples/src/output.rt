@@ -1,14 +1,20 @@
 // The line of a case.
+ghost use Prim.Native.Nat.{_≤_};
+ghost use lib.ListN.{length};
 use component::parameters::Answer;
 use libc::STDOUT_FILENO;
-use vector_io::print_named;
-use vector_io::print_row;
+use text::put_word;
+use vector_io::end_with_row;
+use vector_io::put_answer;
 
 // Writes the line of a job's case: what it is, the answer, and the plane after it.
-pub(crate) fn print_case(case: &[u8], answer: Answer, plane: &[i32]) {
+pub(crate) fn print_case(case: &[u8], answer: Answer, plane: &[i32])
+    requires { ⌜ length (now plane) ≤ 16 ⌝ }
+{
+    let mut line = io::large_buffer();
+    let place = put_answer(&mut line, 0, answer);
+    let colon = put_word(&mut line, place, b": ");
+    let end = end_with_row(&mut line, colon, plane);
     io::write_all(STDOUT_FILENO, case);
-    print_named(b": status ", answer.status as u64);
-    print_named(b" place ", answer.place as u64);
-    io::write_all(STDOUT_FILENO, b": ");
-    print_row(plane);
+    io::write_all(STDOUT_FILENO, &line[..end]);
 }

@@ -1,4 +1,6 @@
 // "index 115 and 116; 31 and 32 data bits; empty bytes (6, place 0); the extremes of 32 bits", by unpack.
+ghost use Prim.Native.Nat.{_≤_};
+ghost use lib.ListN.{length};
 use crate::output::print_case;
 use component::parameters::Parameters;
 
@@ -122,7 +124,9 @@ fn row_of(width: u32, intra: bool) -> Parameters {
 }
 
 // Unpacks bytes into a plane, and writes the line of the case, with the whole plane.
-fn unpack_and_print(case: &[u8], p: Parameters, bytes: &[u8], plane: &mut [i32]) {
+fn unpack_and_print(case: &[u8], p: Parameters, bytes: &[u8], plane: &mut [i32])
+    requires { ⌜ length (now plane) ≤ 16 ⌝ }
+{
     let answer = unpack::unpack(p, bytes, plane);
     print_case(case, answer, plane);
 }

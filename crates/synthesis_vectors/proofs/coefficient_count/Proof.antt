@@ -5,7 +5,7 @@ use mathlib.Core.Path.{_≡_, sym, _∙_}
 use mathlib.Core.Bool.{true}
 use borrow.Author.Needs.{needs}
 use Rattle.component.specs.Checks.{areaWithin}
-use Rattle.component.proofs.ChecksLaws.{width-least, samples-fewer, within-sizes, within-depth, within-area}
+use Rattle.component.proofs.ChecksLaws.{width-least, width-most, samples-fewer, within-sizes, within-depth, within-area}
 use Rattle.synthesis_vectors.proofs.coefficient_count.Statement.{statement}
 use Rattle.synthesis_vectors.proofs.coefficient_count.Tie as tie
 
@@ -22,7 +22,7 @@ padded-area-requires c κs = (within-sizes _ _ (within c), within-depth _ _ (wit
 returns : tie.Need-returns
 returns c =
     let small = within (c .before) in
-    rw (c .padded-area .ensures) (within-area _ _ small, λ some. (width-least _ (within-sizes _ _ small), samples-fewer _))
+    rw (c .padded-area .ensures) (within-area _ _ small, λ some. (width-least _ (within-sizes _ _ small), width-most _ (within-sizes _ _ small), samples-fewer _))
 
 returns-2 : tie.Need-returns-2
 returns-2 c = search needs

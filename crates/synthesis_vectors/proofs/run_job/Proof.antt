@@ -10,7 +10,11 @@ use Rattle.synthesis_vectors.proofs.run_job.Statement.{statement}
 use Rattle.synthesis_vectors.proofs.run_job.Tie as tie
 
 -- what is known of a job that is not bad: its width, and its samples
-known : (c : tie.Else1) → (1 ≤ c .before .before .args .p .width) × (c .before .before .args .p .width * c .before .before .args .p .height ≤ c .before .coefficient-count .result)
+known :
+    (c : tie.Else1)
+    → (1 ≤ c .before .before .args .p .width)
+    × (c .before .before .args .p .width ≤ 4096)
+    × (c .before .before .args .p .width * c .before .before .args .p .height ≤ c .before .coefficient-count .result)
 known c = c .before .coefficient-count .ensures .1 (omega arith)
 
 coefficient-count-requires : tie.Need-coefficient-count-requires
@@ -70,7 +74,9 @@ slice-aggregate-synthesise-and-print-3 c =
     sym (length-take-le _ _ (omega (arith, known (c .before .before .before .before .before .before .before .before .before))))
 
 synthesise-and-print-requires : tie.Need-synthesise-and-print-requires
-synthesise-and-print-requires c κs = known (c .before .before .before .before .before .before .before .before .before) .0
+synthesise-and-print-requires c κs =
+    let job = known (c .before .before .before .before .before .before .before .before .before) in
+    (job .0, job .1)
 
 same-length-2 : tie.Need-same-length-2
 same-length-2 c = search needs

@@ -52,7 +52,7 @@ slice-aggregate-unpack-and-print-2 : tie.Need-slice-aggregate-unpack-and-print-2
 slice-aggregate-unpack-and-print-2 c = sym (length-take-le _ _ (omega arith))
 
 unpack-and-print-requires : tie.Need-unpack-and-print-requires
-unpack-and-print-requires c κs = search needs
+unpack-and-print-requires c κs = simp length-take (omega arith)
 
 same-length-2 : tie.Need-same-length-2
 same-length-2 c = search needs

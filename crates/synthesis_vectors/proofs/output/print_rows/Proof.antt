@@ -1,8 +1,8 @@
--- `synthesis_vectors::output::print_rows` is safe and ends: each row that is written lies within the picture, and is not empty.
+-- `synthesis_vectors::output::print_rows` is safe and ends: each row that is written lies within the picture, is not empty and fits a line.
 -- Assumes nothing.
 use Prim.Native.Nat.{_≤_, _-_}
 use native.Mathlib.Omega.{arith}
-use lib.ListN.{length}
+use lib.ListN.{length, length-take}
 use Rattle.synthesis_vectors.proofs.output.print_rows.Statement.{statement}
 use Rattle.synthesis_vectors.proofs.output.print_rows.Tie as tie
 
@@ -34,7 +34,7 @@ part-print-row-end : tie.Need-part-print-row-end Inv-loop μ-loop
 part-print-row-end c = omega arith
 
 print-row-requires : tie.Need-print-row-requires Inv-loop μ-loop
-print-row-requires c κs = tt
+print-row-requires c κs = simp length-take (omega arith)
 
 loop-less : tie.Need-loop-less Inv-loop μ-loop
 loop-less c = omega arith

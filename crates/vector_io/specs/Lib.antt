@@ -1,0 +1,2 @@
+-- The code's own forms
+pub mod Lines
