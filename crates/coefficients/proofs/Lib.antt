@@ -1,5 +1,6 @@
 -- The laws of reading, for this crate and those above it.
 pub mod QuantiserLaws
+pub mod FactorsLaws
 pub mod ScalingLaws
 pub mod ReadingLaws
 pub mod ValuesLaws

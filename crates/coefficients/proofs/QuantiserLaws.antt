@@ -1,28 +1,15 @@
--- Laws of dequantising: the factor and the offset of an index as the code computes them, and their bounds.
+-- Laws of dequantising: the offset of an index as the code computes it, and bounds of factor and offset.
 -- Assumes nothing.
-use mathlib.Core.Path.{_≡_, refl, _∙_}
+use mathlib.Core.Path.{_≡_, refl}
 use mathlib.Core.Logic.{_≢_}
 use Prim.Native.Nat.{ℕ, zero, suc, _+_, _*_, _/_, _%_, _^_, _≤_, _<_}
-use native.Mathlib.Nat.{one-mul}
 use native.Mathlib.Omega.{arith}
-use lib.Dec.{lit<}
-use lib.Pow.{pow-pos, pow-mono, shl-exact}
+use lib.Pow.{pow-pos, pow-mono}
 use Rattle.coefficients.specs.Quantiser.{factorOf, quantFactor, quantOffset}
 
--- 2^(q/4) as the code computes it, and its bound
-pub power : (q : ℕ) → q ≤ 115 → (1 * 2 ^ (q / 4)) % 2 ^ 64 ≡ 2 ^ (q / 4)
-power q h = shl-exact {a = 1} 1 (q / 4) 64 (lit< tt) (omega arith) ∙ one-mul (2 ^ (q / 4))
-
-pub power-most : (q : ℕ) → q ≤ 115 → 2 ^ (q / 4) ≤ 2 ^ 28
+-- the power of two in a factor
+power-most : (q : ℕ) → q ≤ 115 → 2 ^ (q / 4) ≤ 2 ^ 28
 power-most q h = pow-mono {i = q / 4} {j = 28} (omega arith)
-
--- the last of the four formulas
-pub factor-last : (r b : ℕ) → r ≢ 0 → r ≢ 1 → r ≢ 2 → factorOf r b ≡ (440253 * b + 32722) / 65444
-unfolding factorOf
-factor-last zero b n0 n1 n2 = absurd (n0 refl)
-factor-last (suc zero) b n0 n1 n2 = absurd (n1 refl)
-factor-last (suc (suc zero)) b n0 n1 n2 = absurd (n2 refl)
-factor-last (suc (suc (suc r))) b n0 n1 n2 = refl
 
 -- a factor is at most 7 times its power
 factorOf-most : (r b : ℕ) → 1 ≤ b → factorOf r b ≤ 7 * b

@@ -3,7 +3,9 @@ ghost use mathlib.Core.Path.{_≡_};
 ghost use mathlib.Core.Bool.{true};
 ghost use Prim.Native.Nat.{_≤_, _<_, _^_};
 ghost use Rattle.coefficients.specs.Quantiser.{quantFactor, quantOffset, dequantise};
+ghost use Rattle.coefficients.specs.Factors.{KnowsFactors};
 ghost use Rattle.coefficients.specs.Scaling.{scaleOf, Bounded, smallFit, Small};
+use crate::factors::FACTORS;
 use base::signed;
 
 // What a size is dequantised by.
@@ -66,18 +68,15 @@ fn quant_factor(index: u32) -> u64
     requires { ⌜ index ≤ 115 ⌝ }
     ensures { λ r. ⌜ r ≡ quantFactor index ⌝ }
 {
-    let b = 1u64 << (index / 4);
-    let rest = index % 4;
-    if rest == 0 {
-        return 4 * b;
-    }
-    if rest == 1 {
-        return (503829 * b + 52958) / 105917;
-    }
-    if rest == 2 {
-        return (665857 * b + 58854) / 117708;
-    }
-    (440253 * b + 32722) / 65444
+    let table = factor_table();
+    table[index as usize] as u64
+}
+
+// The factors of all indices.
+fn factor_table() -> [u32; 116]
+    ensures { λ r. ⌜ KnowsFactors r ⌝ }
+{
+    FACTORS
 }
 
 // The offset of an index, whose factor is at hand.

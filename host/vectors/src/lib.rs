@@ -1,4 +1,5 @@
-//! Chooses the stored jobs and recordings, and has the reference decoder answer them.
+//! Chooses the stored jobs and recordings, and has the reference decoder answer them; and writes the stored
+//! table of quantiser factors.
 //!
 //! The reference was written from the papers alone. What is here was written with the proved code in
 //! sight, so as to reach every case and every border of it. So it is a crate of its own, and every answer
@@ -8,9 +9,11 @@
 //! of these names, [`recording_vectors`] (with [`mod@refused_recordings`], [`mod@left_over_recordings`] and
 //! [`wrong_tables`]) and [`mod@samples`] the stored recordings. They share the generator [`random`], the
 //! [`pieces`] of bodies, [`pictures`], [`levels`] of synthesis and [`runs`] of the three jobs.
-//! [`command_line`] is what all commands above the reference read theirs with.
+//! [`mod@factors`] has the table that the proved code reads factors from. [`command_line`] is what all
+//! commands above the reference read theirs with.
 
 pub mod command_line;
+pub mod factors;
 pub mod left_over_recordings;
 pub mod levels;
 pub mod pictures;

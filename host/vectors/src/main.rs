@@ -1,7 +1,8 @@
-//! The command: writes the stored vectors and recordings.
+//! The command: writes the stored vectors and recordings, and the table of factors.
 
 use std::path::Path;
 use std::process::ExitCode;
+use vectors::factors::factors;
 use vectors::recording_vectors::{recordings, Recording};
 use vectors::samples::samples;
 use vectors::synthesis_vectors::synthesis_vectors;
@@ -17,6 +18,7 @@ const USAGE: &str = "usage: vectors COMMAND PATH..
                            the same for crates/unpack_vectors
   vectors recordings DIR   write vectors/recordings: recordings and what they decode to
   vectors samples DIR      the same for samples
+  vectors factors FILE     write crates/coefficients/src/factors.rt: the quantiser's factors
 
 Exit status: 0 done, 1 a file cannot be written, 2 a wrong command line.
 ";
@@ -31,6 +33,9 @@ enum Request {
     Recordings {
         recordings: Vec<Recording>,
         folder: String,
+    },
+    Factors {
+        file: String,
     },
 }
 
@@ -50,6 +55,9 @@ fn read_request(words: &[&str]) -> Result<Request, String> {
         ["unpack-vectors", stdin, stdout] => Ok(vectors(unpack_vectors(), stdin, stdout)),
         ["recordings", folder] => Ok(recordings_in(recordings(), folder)),
         ["samples", folder] => Ok(recordings_in(samples(), folder)),
+        ["factors", file] => Ok(Request::Factors {
+            file: file.to_string(),
+        }),
         _ => Err("no such command, or a word too many or too few".to_string()),
     }
 }
@@ -63,6 +71,7 @@ fn main() -> ExitCode {
             stdout,
         }) => write_vectors(&vectors, &stdin, &stdout),
         Ok(Request::Recordings { recordings, folder }) => write_recordings(&recordings, &folder),
+        Ok(Request::Factors { file }) => write(file.as_ref(), factors().as_bytes()),
         Err(status) => return status,
     };
     match written {

@@ -457,12 +457,12 @@ fn codeblock_jobs(random: &mut Random) -> Vec<UnpackJob> {
     jobs
 }
 
-/// Every quantiser index, with the numbers 0, 1, -1, 2, -3 and 100.
+/// Every quantiser index, with the numbers 0, 1, -1, 2, -3 and 100, or 4 where 100 would not fit 32 bits.
 fn index_jobs() -> Vec<UnpackJob> {
     let p = plain(6, 1, 0, false);
     (0..=116)
         .map(|index| {
-            let most = if index < 96 { 100 } else { 1 };
+            let most = if index < 98 { 100 } else { 4 };
             let data = signed_numbers(&[0, 1, -1, 2, -3, most]);
             job(&p, subband_bytes(index, &data))
         })

@@ -11,8 +11,8 @@ pub fn answer(status: u32, place: u64) -> Answer {
     Answer { status, place }
 }
 
-/// The folder of a proved program.
-pub fn program_folder(name: &str) -> PathBuf {
+/// The folder of a proved crate.
+pub fn crate_folder(name: &str) -> PathBuf {
     repository("crates").join(name)
 }
 
@@ -24,21 +24,31 @@ pub fn assert_stored(file: &Path, bytes: &[u8]) {
 
 /// Fails unless a command writes these vectors, and says where it can't.
 pub fn assert_writes_vectors(command: &str, vectors: &Vectors) {
-    let [stdin, stdout] = ["stdin", "stdout"]
-        .map(|name| PathBuf::from(env!("CARGO_TARGET_TMPDIR")).join(format!("{command}.{name}")));
-    let write = |stdin: &Path, stdout: &Path| {
+    assert_writes(command, &[&vectors.input, vectors.output.as_bytes()]);
+}
+
+/// Fails unless a command writes a file with each of these bytes, and says where it can't.
+pub fn assert_writes(command: &str, contents: &[&[u8]]) {
+    let folder = PathBuf::from(env!("CARGO_TARGET_TMPDIR"));
+    let files: Vec<PathBuf> = (0..contents.len())
+        .map(|k| folder.join(format!("{command}.{k}")))
+        .collect();
+    let write = |files: &[PathBuf]| {
         Command::new(env!("CARGO_BIN_EXE_vectors"))
             .arg(command)
-            .args([stdin, stdout])
+            .args(files)
             .output()
             .unwrap()
     };
-    let output = write(&stdin, &stdout);
+    let output = write(&files);
     assert_eq!(output.status.code(), Some(0));
     assert!(output.stdout.is_empty() && output.stderr.is_empty());
-    assert_stored(&stdin, &vectors.input);
-    assert_stored(&stdout, vectors.output.as_bytes());
-    let output = write(&stdin.join("no folder"), &stdout);
+    for (file, bytes) in files.iter().zip(contents) {
+        assert_stored(file, bytes);
+    }
+    // No file can stand inside a file.
+    let nowhere: Vec<PathBuf> = files.iter().map(|file| file.join("file")).collect();
+    let output = write(&nowhere);
     assert_eq!(output.status.code(), Some(1));
     assert!(!output.stderr.is_empty());
 }

@@ -1,8 +1,9 @@
-//! Tests of the stored vectors and recordings: that they are those of the reference, and reach what they
-//! are made for.
+//! Tests of the stored vectors, recordings and factors: that they are those of the reference, and that the
+//! first two reach what they are made for.
 
 mod command;
 mod common;
+mod factors;
 mod ffmpeg_recordings;
 mod recording_vectors;
 mod samples;

@@ -1,6 +1,6 @@
 //! The stored vectors of the proved program `synthesis_vectors`.
 
-use crate::common::{answer, assert_stored, assert_writes_vectors, program_folder};
+use crate::common::{answer, assert_stored, assert_writes_vectors, crate_folder};
 use reference::params::padded_area;
 use reference::Answer;
 use vectors::synthesis_vectors::{
@@ -10,7 +10,7 @@ use vectors::synthesis_vectors::{
 #[test]
 fn stored_vectors_are_those_of_the_reference() {
     let vectors = synthesis_vectors();
-    let folder = program_folder("synthesis_vectors");
+    let folder = crate_folder("synthesis_vectors");
     assert_stored(&folder.join("stdin"), &vectors.input);
     assert_stored(&folder.join("stdout"), vectors.output.as_bytes());
 }

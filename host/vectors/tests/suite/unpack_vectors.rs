@@ -1,8 +1,11 @@
 //! The stored vectors of the proved program `unpack_vectors`.
 
-use crate::common::{answer, assert_stored, assert_writes_vectors, program_folder};
+use crate::common::{answer, assert_stored, assert_writes_vectors, crate_folder};
+use reference::codes::{BitReader, PastEnd};
 use reference::jobs::INITIAL_ENTRY;
 use reference::Answer;
+use std::collections::BTreeSet;
+use vectors::factors::shows_factor;
 use vectors::unpack_vectors::{
     run, unpack_jobs, unpack_vectors, UnpackJob, MAX_BYTES, MAX_ENTRIES,
 };
@@ -10,7 +13,7 @@ use vectors::unpack_vectors::{
 #[test]
 fn stored_vectors_are_those_of_the_reference() {
     let vectors = unpack_vectors();
-    let folder = program_folder("unpack_vectors");
+    let folder = crate_folder("unpack_vectors");
     assert_stored(&folder.join("stdin"), &vectors.input);
     assert_stored(&folder.join("stdout"), vectors.output.as_bytes());
 }
@@ -100,4 +103,36 @@ fn planes_are_as_document_01_says() {
                 .any(|(job, _, plane)| job.parameters.intra == intra && plane.contains(&extreme)));
         }
     }
+}
+
+/// The quantiser index and the numbers of an accepted job with one subband, one codeblock and no
+/// prediction.
+fn index_and_numbers(job: &UnpackJob) -> (u32, Vec<i64>) {
+    let mut header = BitReader::new(&job.bytes, PastEnd::Missing);
+    let length = header.number().unwrap() as usize;
+    if length == 0 {
+        return (0, Vec::new());
+    }
+    let index = header.number().unwrap() as u32;
+    let start = header.align();
+    let mut data = BitReader::new(&job.bytes[start..start + length], PastEnd::One);
+    let numbers = (0..job.plane_length).map(|_| data.signed_number().unwrap());
+    (index, numbers.collect())
+}
+
+#[test]
+fn every_factor_is_shown_by_a_job() {
+    let mut shown = BTreeSet::new();
+    for (job, given, _) in results() {
+        let p = &job.parameters;
+        let codeblocks = p.codeblocks_across[0] * p.codeblocks_down[0];
+        if given.status != 0 || p.depth > 0 || p.intra || codeblocks > 1 {
+            continue;
+        }
+        let (index, numbers) = index_and_numbers(&job);
+        if numbers.iter().any(|&number| shows_factor(number, index)) {
+            shown.insert(index);
+        }
+    }
+    assert_eq!(Vec::from_iter(shown), Vec::from_iter(0..=115));
 }
