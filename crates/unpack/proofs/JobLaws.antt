@@ -1,6 +1,6 @@
 -- Laws of the job: what passed checks give, the subbands one by one, and the ways that it ends.
 -- Assumes nothing.
-use mathlib.Core.Path.{_≡_, refl, sym, subst}
+use mathlib.Core.Path.{_≡_, refl, sym, ap}
 use mathlib.Core.List.{List}
 use mathlib.Core.Logic.{_≢_}
 use Prim.Native.Nat.{ℕ, zero, suc, _+_, _/_}
@@ -16,7 +16,8 @@ use Rattle.component.specs.Subbands.{subbandCount}
 use Rattle.component.specs.declared.parameters.Parameters.{Parameters}
 use Rattle.component.specs.declared.parameters.Job.the-variants.{Unpack}
 use Rattle.component.proofs.ChecksLaws.{passed}
-use Rattle.coefficients.specs.Reading.{Run, goesOn, stops}
+use Rattle.coefficients.specs.Reading.{Run, goesOn}
+use Rattle.coefficients.specs.Values.{after}
 use Rattle.coefficients.specs.declared.reading.Progress.{Progress}
 use Rattle.coefficients.specs.declared.reading.Progress.the-variants.{At, Refused}
 use Rattle.unpack.specs.Subband.{subband}
@@ -29,22 +30,13 @@ module _ (p : Parameters) (bytes : List ℕ) (k at : ℕ) (plane : List ℤ) whe
   unfolding subbandsFrom
   subbands-end = refl
 
-  -- after one that was accepted, and after one that was refused
-  module _ (n : ℕ) where
-    abbrev endsWith : Run → UnpackResult
-    endsWith r = endedWith k (r .progress) (r .plane) (subbandsFrom p bytes n (suc k))
-
-    pub subbands-next : (bit : ℕ) (last : List ℤ) → goesOn bit last ≡ subband p bytes k (goesOn at plane) →
-        subbandsFrom p bytes (suc n) k at plane ≡ subbandsFrom p bytes n (k + 1) bit last
-    unfolding subbandsFrom endedWith
-    subbands-next bit last e =
-        let more : k + 1 ≡ suc k = omega arith in
-        rw more (subst (λ (r : Run). endsWith r ≡ subbandsFrom p bytes n (suc k) bit last) e refl)
-
-    pub subbands-stop : (status bit : ℕ) (last : List ℤ) → stops status bit last ≡ subband p bytes k (goesOn at plane) →
-        subbandsFrom p bytes (suc n) k at plane ≡ record { status = status; place = k; coefficients = zerosLike last }
-    unfolding subbandsFrom endedWith
-    subbands-stop status bit last e = subst (λ (r : Run). endsWith r ≡ record { status = status; place = k; coefficients = zerosLike last }) e refl
+  -- subband k and those after it, from what was read of subband k
+  pub subbands-read : (n : ℕ) (progress : Progress) (last : List ℤ) → after progress last ≡ subband p bytes k (goesOn at plane) →
+      endedWith k progress last (subbandsFrom p bytes n (k + 1)) ≡ subbandsFrom p bytes (suc n) k at plane
+  unfolding subbandsFrom
+  subbands-read n progress last e =
+      let more : k + 1 ≡ suc k = omega arith in
+      rw more (ap (λ (r : Run). endedWith k (r .progress) (r .plane) (subbandsFrom p bytes n (suc k))) e)
 
 -- An outcome that is no refusal, or leaves zeros.
 abbrev pub ZeroedIfRefused : UnpackResult → Type 0

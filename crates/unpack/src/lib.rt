@@ -53,10 +53,10 @@ fn read_subbands(p: Parameters, bytes: &[u8], plane: &mut [i32]) -> Answer
 {
     let table = lookup_table();
     let count = subband_count(p.depth as usize);
-    let mut at = 0;
     let mut k = 0;
-    while k < count {
-        let progress = read_subband(plane, p, k, bytes, at, &table);
+    // Called in two places, `read_subband` is not inlined, which leaves its loops more registers.
+    let mut progress = read_subband(plane, p, 0, bytes, 0, &table);
+    loop {
         let Progress::At { bit } = progress else {
             zero(plane);
             return Answer {
@@ -64,12 +64,14 @@ fn read_subbands(p: Parameters, bytes: &[u8], plane: &mut [i32]) -> Answer
                 place: k,
             };
         };
-        at = bit;
         k += 1;
-    }
-    Answer {
-        status: ACCEPTED,
-        place: at / 8,
+        if k == count {
+            return Answer {
+                status: ACCEPTED,
+                place: bit / 8,
+            };
+        }
+        progress = read_subband(plane, p, k, bytes, bit, &table);
     }
 }
 
