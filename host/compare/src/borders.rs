@@ -1,7 +1,7 @@
 //! Bodies for the borders of a fast reader: one that reads runs of zeros and short codes many bits at a
 //! time, and all else one value at a time. So rows end inside runs, codes of every length stand at every
-//! bit of a byte, data ends right behind its last code or inside it, and small numbers have quantisers
-//! so large that they just fit 32 bits or just do not.
+//! bit of a byte, data ends right behind its last code or inside it, and numbers, often small ones, have
+//! quantisers with which they just fit 32 bits or just do not.
 
 use crate::bodies::{random_bytes, Body};
 use reference::codes::{BitReader, PastEnd};
@@ -144,10 +144,13 @@ pub fn number_that_fits(random: &mut Random, index: u32) -> i64 {
     random.pick(&[-1, 1]) * random.pick(&[1, most, any])
 }
 
-/// A body of small numbers with quantiser indices so large that they just fit 32 bits; or all but one
-/// of them do.
-pub fn large_index_body(random: &mut Random, p: &Parameters) -> Body {
-    let index = |random: &mut Random| random.range(104, 115) as u32;
+/// A body of numbers that just fit 32 bits with their quantiser indices; or all but one of them do. About
+/// half of the indices are any, the others so large that the numbers are small.
+pub fn just_fits_body(random: &mut Random, p: &Parameters) -> Body {
+    let index = |random: &mut Random| {
+        let least = random.pick(&[0, 104]);
+        random.range(least, 115) as u32
+    };
     let mut body = body_of_runs(random, p, index, number_that_fits);
     if random.range(0, 2) == 0 {
         let bands = subbands(p);

@@ -4,7 +4,7 @@ use crate::bodies::{
     change_length, faulty_bytes, flip_bits, lossless_body, noise, picture_body, random_body,
     random_data,
 };
-use crate::borders::{codes_body, ends_bytes, large_index_body, runs_body};
+use crate::borders::{codes_body, ends_bytes, just_fits_body, runs_body};
 use crate::parameters::{
     put_out_of_range, random_parameters, rectangle_parameters, row_parameters,
 };
@@ -40,8 +40,9 @@ pub enum Kind {
     Codes,
     /// Data that ends right behind its last code, or inside it.
     Ends,
-    /// Small numbers with quantiser indices so large that they just fit 32 bits, or just do not.
-    LargeIndex,
+    /// Numbers that just fit 32 bits with their quantiser index, or just do not: any index, and often
+    /// one so large that the numbers are small.
+    JustFits,
     /// Codeblocks whose rows are read many at once or just are not, and zeros about their ends.
     Rectangles,
     /// Headers in order, data at random.
@@ -67,7 +68,7 @@ const SHARES: [(Kind, u32); 17] = [
     (Kind::Runs, 5),
     (Kind::Codes, 4),
     (Kind::Ends, 4),
-    (Kind::LargeIndex, 3),
+    (Kind::JustFits, 3),
     (Kind::Rectangles, 10),
     (Kind::Data, 4),
     (Kind::Noise, 3),
@@ -101,7 +102,7 @@ impl Case {
             _ => 0,
         };
         let p = match kind {
-            Kind::Runs | Kind::Codes | Kind::Ends | Kind::LargeIndex => row_parameters(&mut random),
+            Kind::Runs | Kind::Codes | Kind::Ends | Kind::JustFits => row_parameters(&mut random),
             Kind::Rectangles => rectangle_parameters(&mut random),
             _ => random_parameters(&mut random, least_depth),
         };
@@ -220,7 +221,7 @@ fn random_bytes(random: &mut Random, kind: Kind, p: &Parameters) -> Vec<u8> {
         Kind::Runs => runs_body(random, p).bytes(p),
         Kind::Codes => codes_body(random, p).bytes(p),
         Kind::Ends => ends_bytes(random, p),
-        Kind::LargeIndex => large_index_body(random, p).bytes(p),
+        Kind::JustFits => just_fits_body(random, p).bytes(p),
         Kind::Rectangles => rectangles_bytes(random, p),
         Kind::Data => random_data(random, p),
         Kind::Noise => noise(random),

@@ -82,7 +82,7 @@ fn small_numbers_just_fit_with_large_indices() {
     let mut fits = BTreeSet::new();
     let mut refused = 0;
     let mut accepted = 0;
-    for case in cases(Kind::LargeIndex) {
+    for case in cases(Kind::JustFits) {
         match unpack_status(case) {
             0 => accepted += 1,
             9 => refused += 1,

@@ -4,6 +4,7 @@ mod agreement;
 mod borders;
 mod codes;
 mod command;
+mod factors;
 mod fast_paths;
 mod fast_rectangles;
 mod fences;
