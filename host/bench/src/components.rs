@@ -50,7 +50,8 @@ pub const RATES: [Rate; 2] = [about(1.1, 14), about(3.7, 4)];
 /// The wavelet of the tables of sizes and rates.
 pub const ONE_WAVELET: u32 = 1;
 
-/// The other sizes that are measured at the first rate: add one for another row.
+/// The other sizes that are measured at the first rate: add one for another row. The first is so small that
+/// what is done once a call and once a subband shows; its instructions are counted, too.
 pub const OTHER_SIZES: [(u32, u32); 5] =
     [(64, 48), (240, 136), (480, 270), (960, 540), (4096, 2160)];
 

@@ -47,6 +47,8 @@ pub fn counted_components() -> Result<Vec<Component>, String> {
         components.extend(checked(Plan::new(COUNTED_SIZE, wavelet), &RATES, false)?);
     }
     components.extend(in_codeblocks(COUNTED_SIZE, &COUNTED_CODEBLOCKS)?);
+    let small = Plan::new(OTHER_SIZES[0], ONE_WAVELET);
+    components.extend(checked(small, &RATES[..1], false)?);
     Ok(components)
 }
 
