@@ -110,12 +110,19 @@ returns-2 c =
     sym (ap (λ (n : ℕ). subbandsFrom (start .args .p) (now (start .args .bytes)) n (head .loop .k + 1) (told .0 .0) (head .loop .plane)) none ∙ subbands-end _ _ _ _ _)
     ∙ rw (told .1) at (whole head)
 
+-- where the last was not read yet there is a next
+next-below : (c : tie.Else1 Inv-loop μ-loop) →
+    let head = c .before .before .before .before in
+    head .loop .k + 1 < subbandCount (head .before .before .before .before .before .before .before .before .before .args .p .depth)
+next-below c =
+    let head = c .before .before .before .before in
+    omega (arith, head .loop .inv .0, c .if1 .left, head .before .before .before .before .before .subband-count .ensures)
+
 read-subband-requires-2 : tie.Need-read-subband-requires-2 Inv-loop μ-loop
 read-subband-requires-2 c κs =
     let head = c .before .before .before .before .before .before in
     let start = head .before .before .before .before .before .before .before .before .before in
-    let counted = head .before .before .before .before .before .subband-count in
-    let below : head .loop .k + 1 < subbandCount (start .args .p .depth) = omega (arith, head .loop .inv .0, c .before .before .if1 .left, counted .ensures) in
+    let below = next-below (c .before .before) in
     let bound = head .loop .inv .1 _ (c .before .before .before .before .progress .given .1) in (
       start .pre .0,
       below,
@@ -135,7 +142,7 @@ loop-again c =
     let start = head .before .before .before .before .before .before .before .before .before in
     let counted = head .before .before .before .before .before .subband-count in
     let told = c .before .before .before .before .before .before .progress .given in
-    let below : head .loop .k + 1 < subbandCount (start .args .p .depth) = omega (arith, head .loop .inv .0, c .before .before .before .before .if1 .left, counted .ensures) in
+    let below = next-below (c .before .before .before .before) in
     let read = c .before .read-subband2 .ensures in
     let more : suc (counted .result - (head .loop .k + 1 + 1)) ≡ counted .result - (head .loop .k + 1) = omega (arith, below, counted .ensures) in (
       omega (arith, below, counted .ensures),
