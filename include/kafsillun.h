@@ -32,13 +32,17 @@ extern "C" {
  * The parameters of a component.
  *
  * With s = 2^depth, the padded width is the width rounded up to a multiple of s, and the padded height the height.
+ *
+ * Level 0 of an intra picture is predicted. In every subband the offset that dequantising adds depends on the flag, so a component that is
+ * unpacked with the wrong flag may have other values at every level: a magnitude 1 at quantiser index 12 is 12 in an intra picture and 11 in
+ * any other.
  */
 typedef struct KafsillunParameters {
     uint32_t width;                /* 1 to 4096 */
     uint32_t height;               /* 1 to 4096 */
     uint32_t depth;                /* levels of the transform, 0 to 4 */
     uint32_t wavelet;              /* Dirac's wavelet index, 0 to 6; unpack does not look at it */
-    uint32_t intra;                /* 0: no; any other number: yes, level 0 is predicted; synthesise does not look at it */
+    uint32_t intra;                /* 0: no, as in a difference picture; any other number: yes; synthesise does not look at it */
     uint32_t codeblocks_across[5]; /* for each level 0 to depth, 1 to 255; those above are not looked at, and none by synthesise */
     uint32_t codeblocks_down[5];   /* likewise */
 } KafsillunParameters;

@@ -224,6 +224,7 @@ static void unpack_sees_each_parameter(void)
     KafsillunParameters p = distinct;
     const uint8_t two_ones[2] = {0x30, 0x22};
     const uint8_t flag_one_flag[2] = {0x30, 0x17};
+    const uint8_t one_at_index_12[3] = {0x28, 0xC0, 0x20};
     int32_t values[2];
     int level;
 
@@ -258,6 +259,13 @@ static void unpack_sees_each_parameter(void)
     p.intra = 0x80000000;
     expect_answer(kafsillun_unpack(p, two_ones, 2, values, 2), 0, 2, "unpack: intra");
     expect(values[0] == 1 && values[1] == 2, "unpack: predicted values");
+
+    p = plain(1, 1, 0, 0);
+    expect_answer(kafsillun_unpack(p, one_at_index_12, 3, values, 1), 0, 3, "unpack: index 12, not intra");
+    expect(values[0] == 11, "unpack: a value that is not of an intra picture");
+    p.intra = 1;
+    expect_answer(kafsillun_unpack(p, one_at_index_12, 3, values, 1), 0, 3, "unpack: index 12, intra");
+    expect(values[0] == 12, "unpack: a value of an intra picture");
 }
 
 /* Decodes bytes over planes of 4 entries that have other numbers, and says whether all have what the status asks for. */

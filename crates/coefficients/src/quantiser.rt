@@ -1,4 +1,4 @@
-// Document 01, "Dequantising".
+// Document 01, "Dequantising", and document 02, request Three.
 ghost use mathlib.Core.Path.{_≡_};
 ghost use mathlib.Core.Bool.{true};
 ghost use Prim.Native.Nat.{_≤_, _<_, _^_};
@@ -14,13 +14,14 @@ pub struct Quantiser {
     pub offset: u64,
 }
 
-// The quantiser of an index. Its numbers are free: whatever they are, sizes become what the index makes of them.
-pub fn quantiser_of(index: u32) -> Quantiser
+// The quantiser of an index, in a picture that is intra or not. Its numbers are free: whatever they are, sizes become what the index makes of
+// them in such a picture.
+pub fn quantiser_of(intra: bool, index: u32) -> Quantiser
     requires { ⌜ index ≤ 115 ⌝ }
-    ensures { λ r. ⌜ (scaleOf r ≡ dequantise index) × Bounded r ⌝ }
+    ensures { λ r. ⌜ (scaleOf r ≡ dequantise intra index) × Bounded r ⌝ }
 {
     let factor = quant_factor(index);
-    let offset = quant_offset(index, factor);
+    let offset = quant_offset(intra, index, factor);
     Quantiser { factor, offset }
 }
 
@@ -80,15 +81,18 @@ fn factor_table() -> [u32; 116]
 }
 
 // The offset of an index, whose factor is at hand.
-fn quant_offset(index: u32, factor: u64) -> u64
+fn quant_offset(intra: bool, index: u32, factor: u64) -> u64
     requires { ⌜ (index ≤ 115) × (factor ≡ quantFactor index) ⌝ }
-    ensures { λ r. ⌜ r ≡ quantOffset index ⌝ }
+    ensures { λ r. ⌜ r ≡ quantOffset intra index ⌝ }
 {
     if index == 0 {
         return 1;
     }
+    // By both rules.
     if index == 1 {
         return 2;
     }
-    (factor + 1) / 2
+    // floor((factor + 1)/2) is floor((4 · factor + 4)/8).
+    let eighths = if intra { 4 } else { 3 };
+    (eighths * factor + 4) / 8
 }

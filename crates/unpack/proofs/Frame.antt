@@ -49,15 +49,15 @@ module _ (Q : List ℤ → Type 0) where
 
   module _ (b : CodeblockGrid) (bytes : List ℕ)
       (kept : (part : List ℕ) (end origin : ℕ) (scale : ℕ → ℕ) (r : Run) → Q (r .plane) → Q (codeblocks part end origin scale b r .plane)) where
-    headed-holds : (h : Header) (plane : List ℤ) → Q plane → Q (headed b bytes h plane .plane)
+    headed-holds : (intra : Bool) (h : Header) (plane : List ℤ) → Q plane → Q (headed b bytes intra h plane .plane)
     unfolding headed checkedData subbandData goesOnAt
-    headed-holds (Skipped bit) plane here = here
-    headed-holds (Coded index bit size) plane here =
-        let r = codeblocks (take size (drop (bit / 8) bytes)) (8 * size) bit (dequantise index) b (goesOn 0 plane) in
-        let read = kept (take size (drop (bit / 8) bytes)) (8 * size) bit (dequantise index) (goesOn 0 plane) here in
+    headed-holds intra (Skipped bit) plane here = here
+    headed-holds intra (Coded index bit size) plane here =
+        let r = codeblocks (take size (drop (bit / 8) bytes)) (8 * size) bit (dequantise intra index) b (goesOn 0 plane) in
+        let read = kept (take size (drop (bit / 8) bytes)) (8 * size) bit (dequantise intra index) (goesOn 0 plane) here in
         choice-holds (ltb 115 index) _ _ here
         (choice-holds (ltb (length bytes) (bit / 8 + size)) _ _ here (step-holds (r .progress) (r .plane) _ read (λ at. read)))
-    headed-holds (RefusedHeader status bit) plane here = here
+    headed-holds intra (RefusedHeader status bit) plane here = here
 
   predicted-holds : (b : CodeblockGrid) (bit : ℕ) (plane : List ℤ) → Q (prediction (b .stride) (b .subband .width) (b .subband .height) plane .plane) → Q (predictedBand b bit plane .plane)
   unfolding predictedBand
@@ -74,7 +74,7 @@ module _ (Q : List ℤ → Type 0) where
       r = subbandFrom p bytes k at plane
 
       read : Q (r .plane)
-      read = headed-holds (codeblocksOf p k) bytes kept (headerAt bytes at) plane here
+      read = headed-holds (codeblocksOf p k) bytes kept _ (headerAt bytes at) plane here
 
       by : (test : Bool) → isPredicted p k ≡ test → Q (cond test (going (r .progress) (r .plane) (λ bit. predictedBand (codeblocksOf p k) bit (r .plane))) r .plane)
       by true e = step-holds (r .progress) (r .plane) _ read (λ bit. predicted-holds (codeblocksOf p k) bit (r .plane) (predicted e (r .plane) read))

@@ -59,10 +59,10 @@ prediction-passed n b (Refused status bit) plane upto = upto
 -- bytes that are used, followed by some (a) or by others (b)
 module _ (p : Parameters) (used a b : List ℕ) where
   -- data that were read are the same whatever follows, if the run went on within the bytes used
-  data-same : (c : CodeblockGrid) (index bit size : ℕ) (plane : List ℤ) → bit % 8 ≡ 0 → Upto (8 * length used) (checkedData c (used ++ a) index bit size plane .progress) →
-      (bit ≤ 8 * length used) × (checkedData c (used ++ b) index bit size plane ≡ checkedData c (used ++ a) index bit size plane)
+  data-same : (c : CodeblockGrid) (intra : Bool) (index bit size : ℕ) (plane : List ℤ) → bit % 8 ≡ 0 → Upto (8 * length used) (checkedData c (used ++ a) intra index bit size plane .progress) →
+      (bit ≤ 8 * length used) × (checkedData c (used ++ b) intra index bit size plane ≡ checkedData c (used ++ a) intra index bit size plane)
   unfolding checkedData subbandData
-  data-same c index bit size plane whole upto =
+  data-same c intra index bit size plane whole upto =
       let inside : bit + 8 * size ≤ 8 * length used =
       choice-passed (bit + 8 * size ≤ 8 * length used) (8 * length used) (ltb 115 index) _ _ upto (λ t h. absurd h)
       (λ t h. choice-passed (bit + 8 * size ≤ 8 * length used) (8 * length used) (ltb (length (used ++ a)) (bit / 8 + size)) _ _ h (λ u g. absurd g)
@@ -78,19 +78,19 @@ module _ (p : Parameters) (used a b : List ℕ) where
           ∙ take-append-le size (drop (bit / 8) used) tail (omega (arith, length-drop (bit / 8) used))
 
   -- so is what a header announces, and the header ends within the bytes used
-  headed-same : (c : CodeblockGrid) (at : ℕ) (h : Header) (plane : List ℤ) → Announced (used ++ a) at h → Upto (8 * length used) (headed c (used ++ a) h plane .progress) →
-      EndsBy (8 * length used) h × (headed c (used ++ b) h plane ≡ headed c (used ++ a) h plane)
+  headed-same : (c : CodeblockGrid) (intra : Bool) (at : ℕ) (h : Header) (plane : List ℤ) → Announced (used ++ a) at h → Upto (8 * length used) (headed c (used ++ a) intra h plane .progress) →
+      EndsBy (8 * length used) h × (headed c (used ++ b) intra h plane ≡ headed c (used ++ a) intra h plane)
   unfolding headed
-  headed-same c at (Skipped bit) plane known upto = (upto, refl)
-  headed-same c at (Coded index bit size) plane known upto = data-same c index bit size plane (known .0 .whole) upto
-  headed-same c at (RefusedHeader status bit) plane known upto = (upto, refl)
+  headed-same c intra at (Skipped bit) plane known upto = (upto, refl)
+  headed-same c intra at (Coded index bit size) plane known upto = data-same c intra index bit size plane (known .0 .whole) upto
+  headed-same c intra at (RefusedHeader status bit) plane known upto = (upto, refl)
 
   -- so are a subband's header and data together
   from-same : (k at : ℕ) (plane : List ℤ) → Upto (8 * length used) (subbandFrom p (used ++ a) k at plane .progress) →
       subbandFrom p (used ++ b) k at plane ≡ subbandFrom p (used ++ a) k at plane
   unfolding subbandFrom
   from-same k at plane upto =
-      let same = headed-same (codeblocksOf p k) at (headerAt (used ++ a) at) plane (header-announced (used ++ a) at) upto in
+      let same = headed-same (codeblocksOf p k) _ at (headerAt (used ++ a) at) plane (header-announced (used ++ a) at) upto in
       rw (header-followed used a b at (same .0)) (same .1)
 
   -- so is a subband, predicted or not

@@ -119,11 +119,11 @@ abbrev pub Ends : List ℕ → ℕ → ℕ → Type 0
 Ends bytes at = Follows bytes at (2 ^ 36)
 
 -- a subband ends where it announces, within the bytes
-headed-lands : (b : CodeblockGrid) (bytes : List ℕ) (at : ℕ) (h : Header) (plane : List ℤ) → Announced bytes at h → Lands (Ends bytes at) (headed b bytes h plane .progress)
+headed-lands : (b : CodeblockGrid) (bytes : List ℕ) (intra : Bool) (at : ℕ) (h : Header) (plane : List ℤ) → Announced bytes at h → Lands (Ends bytes at) (headed b bytes intra h plane .progress)
 unfolding headed checkedData subbandData
-headed-lands b bytes at (Skipped bit) plane known =
+headed-lands b bytes intra at (Skipped bit) plane known =
     record { onward = known .onward; bits-most = omega (arith, known .bits-most); whole = known .whole; within = known .within }
-headed-lands b bytes at (Coded index bit size) plane known =
+headed-lands b bytes intra at (Coded index bit size) plane known =
     choice-lands (Ends bytes at) (ltb 115 index) _ _ (λ t e. omega arith)
     (λ t. choice-lands (Ends bytes at) (ltb (length bytes) (bit / 8 + size)) _ _ (λ u e. omega arith)
     (λ u.
@@ -136,7 +136,7 @@ headed-lands b bytes at (Coded index bit size) plane known =
       within = λ inside. omega (arith, known .0 .whole, there);
     })
     (codeblocks-land _ _ _ _ b (goesOn 0 plane) tt)))
-headed-lands b bytes at (RefusedHeader status bit) plane known = known
+headed-lands b bytes intra at (RefusedHeader status bit) plane known = known
 
 -- and prediction goes on where it was
 predicted-lands : (P : ℕ → Type 0) (b : CodeblockGrid) (bit : ℕ) (plane : List ℤ) → P bit → Lands P (predictedBand b bit plane .progress)
@@ -152,7 +152,7 @@ module _ (p : Parameters) (bytes : List ℕ) where
   pub subband-lands : (k at : ℕ) (plane : List ℤ) → Lands (Ends bytes at) (subband p bytes k (goesOn at plane) .progress)
   unfolding subband subbandFrom going
   subband-lands k at plane =
-      let here = headed-lands (codeblocksOf p k) bytes at (headerAt bytes at) plane (header-announced bytes at) in
+      let here = headed-lands (codeblocksOf p k) bytes _ at (headerAt bytes at) plane (header-announced bytes at) in
       choice-lands (Ends bytes at) (isPredicted p k) _ _
       (λ t. step-lands (Ends bytes at) (subbandFrom p bytes k at plane .progress) (subbandFrom p bytes k at plane .plane) _ here (λ bit. predicted-lands (Ends bytes at) (codeblocksOf p k) bit _))
       (λ t. here)

@@ -1,4 +1,4 @@
--- Document 01, "One subband": its data and its prediction, after its header. A run goes on at a bit, counted from the start of the bytes. The
+-- Document 01, "One subband", and document 02, request Three: its data and its prediction, after its header. A run goes on at a bit, counted from the start of the bytes. The
 -- plane that a subband starts with holds zeros where the subband stands: what is not read stays zero.
 use Prim.Native.Nat.{ℕ, zero, suc, _+_, _*_, _/_}
 use mathlib.Core.Bool.{Bool, false, cond}
@@ -25,23 +25,23 @@ goesOnAt bit r = going (r .progress) (r .plane) (λ at. goesOn bit (r .plane))
 
 -- The codeblocks of a subband, in a plane and from bytes.
 module _ (b : CodeblockGrid) (bytes : List ℕ) where
-  -- "Blocks follow": the data, of a stated length, from a bit on
-  unfoldable pub subbandData : ℕ → ℕ → ℕ → List ℤ → Run
-  subbandData index bit size plane =
+  -- "Blocks follow": the data, of a stated length, from a bit on, dequantised by a function of sizes
+  unfoldable pub subbandData : (ℕ → ℕ) → ℕ → ℕ → List ℤ → Run
+  subbandData scale bit size plane =
       goesOnAt (bit + 8 * size)
-      (codeblocks (take size (drop (bit / 8) bytes)) (8 * size) bit (dequantise index) b (goesOn 0 plane))
+      (codeblocks (take size (drop (bit / 8) bytes)) (8 * size) bit scale b (goesOn 0 plane))
 
   -- "check 8, then check that length bytes remain (6)"
-  unfoldable pub checkedData : ℕ → ℕ → ℕ → List ℤ → Run
-  checkedData index bit size plane =
+  unfoldable pub checkedData : Bool → ℕ → ℕ → ℕ → List ℤ → Run
+  checkedData intra index bit size plane =
       cond (ltb 115 index) (stops 8 bit plane)
-      (cond (ltb (length bytes) (bit / 8 + size)) (stops 6 (8 * length bytes) plane) (subbandData index bit size plane))
+      (cond (ltb (length bytes) (bit / 8 + size)) (stops 6 (8 * length bytes) plane) (subbandData (dequantise intra index) bit size plane))
 
-  -- what a header announces; where "all values are 0" the plane stays as it is
-  unfoldable pub headed : Header → List ℤ → Run
-  headed (Skipped bit) plane = goesOn bit plane
-  headed (Coded index bit size) plane = checkedData index bit size plane
-  headed (Refused status bit) plane = stops status bit plane
+  -- what a header announces, in a picture that is intra or not; where "all values are 0" the plane stays as it is
+  unfoldable pub headed : Bool → Header → List ℤ → Run
+  headed intra (Skipped bit) plane = goesOn bit plane
+  headed intra (Coded index bit size) plane = checkedData intra index bit size plane
+  headed intra (Refused status bit) plane = stops status bit plane
 
 -- "If intra, level 0 is then predicted in raster order, skipped or not"; 9 where a predicted value does not fit
 unfoldable pub predictedBand : CodeblockGrid → ℕ → List ℤ → Run
@@ -67,8 +67,9 @@ codeblocksOf p k =
     }
 
 module _ (p : Parameters) (bytes : List ℕ) where
+  -- "Dequantising now depends on the intra flag": the picture's, in every subband
   unfoldable pub subbandFrom : ℕ → ℕ → List ℤ → Run
-  subbandFrom k at plane = headed (codeblocksOf p k) bytes (headerAt bytes at) plane
+  subbandFrom k at plane = headed (codeblocksOf p k) bytes (p .intra) (headerAt bytes at) plane
 
   unfoldable pub subband : ℕ → Run → Run
   subband k r =

@@ -4,9 +4,10 @@ ghost use Prim.Native.Nat.{_+_, _/_, _≤_, _<_, _^_};
 ghost use lib.ListN.{length};
 ghost use Rattle.component.specs.Subbands.{subbandCount};
 ghost use Rattle.lookups.specs.Lookups.{KnowsCodes};
+ghost use Rattle.coefficients.specs.Scaling.{scaleOf, Bounded};
 ghost use Rattle.coefficients.specs.Values.{after};
 ghost use Rattle.codeblocks.specs.Blocks.{Placed};
-ghost use Rattle.unpack.specs.Subband.{codeblocksOf, subbandData, checkedData, headed, predictedBand};
+ghost use Rattle.unpack.specs.Subband.{codeblocksOf, subbandData, headed, predictedBand};
 ghost use Rattle.unpack.specs.Bounds.{Checked, ClearBand, SoundHeader};
 use crate::header::Header;
 use base::limits::QUANTISER_MOST;
@@ -16,6 +17,7 @@ use base::status::VALUE_OUT_OF_RANGE;
 use codeblocks::CodeblockGrid;
 use codeblocks::Position;
 use codeblocks::read_codeblocks;
+use coefficients::quantiser::Quantiser;
 use coefficients::quantiser::quantiser_of;
 use coefficients::quantiser::small_values;
 use coefficients::reading::Cursor;
@@ -25,69 +27,55 @@ use component::sizes::padded_size;
 use component::subbands::subband_at;
 use prediction::predict;
 
-// Reads what a header announces.
+// Reads what a header announces, in a picture that is intra or not: checks the quantiser index, and then that the stated length remains.
 pub(crate) fn read_headed(
     plane: &mut [i32],
     blocks: CodeblockGrid,
+    intra: bool,
     header: Header,
     bytes: &[u8],
     table: &[u16; 256],
 ) -> Progress
     requires { ⌜ Placed blocks (now plane) × ClearBand blocks (now plane) × SoundHeader header × KnowsCodes (now table) ⌝ }
-    ensures { λ r. ⌜ after r (now (plane .exit)) ≡ headed blocks (now (bytes .entry)) header (now (plane .entry)) ⌝ }
+    ensures { λ r. ⌜ after r (now (plane .exit)) ≡ headed blocks (now (bytes .entry)) intra header (now (plane .entry)) ⌝ }
 {
     match header {
         Header::Skipped { bit } => Progress::At { bit },
         Header::Coded { index, bit, size } => {
-            read_checked(plane, blocks, index, bit, size, bytes, table)
+            if QUANTISER_MOST < index {
+                return Progress::Refused {
+                    status: QUANTISER_REFUSED,
+                    bit,
+                };
+            }
+            if bytes.len() < bit / 8 + size {
+                return Progress::Refused {
+                    status: BYTES_END_EARLY,
+                    bit: 8 * bytes.len(),
+                };
+            }
+            let q = quantiser_of(intra, index);
+            read_data(plane, blocks, q, bit, size, bytes, table)
         }
         Header::Refused { status, bit } => Progress::Refused { status, bit },
     }
-}
-
-// Checks the quantiser index, and then that the stated length remains; reads the data.
-fn read_checked(
-    plane: &mut [i32],
-    blocks: CodeblockGrid,
-    index: u32,
-    bit: usize,
-    size: usize,
-    bytes: &[u8],
-    table: &[u16; 256],
-) -> Progress
-    requires { ⌜ Placed blocks (now plane) × ClearBand blocks (now plane) × (bit < 2 ^ 62) × (size < 2 ^ 32) × KnowsCodes (now table) ⌝ }
-    ensures { λ r. ⌜ after r (now (plane .exit)) ≡ checkedData blocks (now (bytes .entry)) index bit size (now (plane .entry)) ⌝ }
-{
-    if QUANTISER_MOST < index {
-        return Progress::Refused {
-            status: QUANTISER_REFUSED,
-            bit,
-        };
-    }
-    if bytes.len() < bit / 8 + size {
-        return Progress::Refused {
-            status: BYTES_END_EARLY,
-            bit: 8 * bytes.len(),
-        };
-    }
-    read_data(plane, blocks, index, bit, size, bytes, table)
 }
 
 // Reads the codeblocks from data of a stated length. Goes on where the length ends.
 fn read_data(
     plane: &mut [i32],
     blocks: CodeblockGrid,
-    index: u32,
+    q: Quantiser,
     bit: usize,
     size: usize,
     bytes: &[u8],
     table: &[u16; 256],
 ) -> Progress
     requires { ⌜
-        Placed blocks (now plane) × ClearBand blocks (now plane) × (index ≤ 115) × (bit < 2 ^ 62) × (size < 2 ^ 32)
+        Placed blocks (now plane) × ClearBand blocks (now plane) × Bounded q × (bit < 2 ^ 62) × (size < 2 ^ 32)
         × (bit / 8 + size ≤ length (now bytes)) × KnowsCodes (now table)
         ⌝ }
-    ensures { λ r. ⌜ after r (now (plane .exit)) ≡ subbandData blocks (now (bytes .entry)) index bit size (now (plane .entry)) ⌝ }
+    ensures { λ r. ⌜ after r (now (plane .exit)) ≡ subbandData blocks (now (bytes .entry)) (scaleOf q) bit size (now (plane .entry)) ⌝ }
 {
     let start = bit / 8;
     let end = start + size;
@@ -102,7 +90,6 @@ fn read_data(
         begun: 0,
         values: 0,
     };
-    let q = quantiser_of(index);
     let small = small_values(q);
     let reached = read_codeblocks(plane, blocks, first, data, cursor, q, table, &small);
     let progress = reached.progress;

@@ -92,7 +92,7 @@ fn read_subband(
 {
     let blocks = codeblocks_of(p, k);
     let header = read_header(bytes, at);
-    let progress = read_headed(plane, blocks, header, bytes, table);
+    let progress = read_headed(plane, blocks, p.intra, header, bytes, table);
     let Progress::At { bit } = progress else {
         return progress;
     };

@@ -14,7 +14,7 @@ use Rattle.component.specs.Partition.{partStart}
 use Rattle.component.specs.Checks.{sizesInRange, depthInRange, waveletInRange, countsInRange, codeblocksInRange, areaOf, areaWithin, planesFit, refusalOf}
 use Rattle.exp_golomb.specs.Bits.{bitAt, present, takeBit}
 use Rattle.exp_golomb.specs.Codes.{onBit, codeFrom, unsigned, withSignBit, signed}
-use Rattle.coefficients.specs.Quantiser.{factorOf, quantFactor, quantOffset, scaled, dequantise}
+use Rattle.coefficients.specs.Quantiser.{factorOf, quantFactor, intraOffset, quantOffset, scaled, dequantise}
 use Rattle.coefficients.specs.Reading.{going, onNumber, store, value, rectangleValues}
 use Rattle.codeblocks.specs.Codeblocks.{codeblockArea, onFlag, codeblockValues, codeblock, codeblocks}
 use Rattle.prediction.specs.Prediction.{meanOf, predictor, storePredicted, predictedValue, predictedRow, prediction}
@@ -38,7 +38,7 @@ use Rattle.contents.proofs.WholeCase.{wholeCase}
 computed :
     (output wholeCase ≡ ascii "entry 0: 2 x 2\n9 12\n7 11\n")
     × (bodyLines 0 (parametersAt wholeCase 0) (body wholeCase 0 ++ (0 ∷ [])) ≡ ascii "entry 0: refused 12 place 8\n")
-unfolding allBelow tabulate zerosLike fits32 withSign walk paddedSize bandSize sizeAt subbandLevel detailOf orientationOf leftOf topOf subbandAt sizesInRange depthInRange waveletInRange countsInRange codeblocksInRange areaOf planesFit refusalOf bitAt present takeBit onBit codeFrom unsigned withSignBit signed factorOf quantFactor quantOffset scaled dequantise going onNumber store value rectangleValues partStart codeblockArea onFlag codeblockValues codeblock codeblocks meanOf predictor storePredicted predictedValue predictedRow prediction boundary onRead headerAt goesOnAt subbandData checkedData headed predictedBand isPredicted codeblocksOf subbandFrom subband endedWith subbandsFrom unpacked deslauriersDubuc97 leGall53 deslauriersDubuc137 haarSteps haar haarWithShift fidelity daubechies97 filterOf changesEven adds clamp readPosition tapSum rounding update changes lift run runAll assigns newFit allNewFit pictureOf raster synthesisPasses interleave synthesis levelFits firstBadLevel pictureFrom badLevel accepted overflowed unchanged transformed synthesised decodeUnchanged zeroed decodeAccepted unpackedAndSynthesised decoded bigEndian codeblockCount codeblockCounts parametersAt offsetAt lengthAt bodyStart entryIsRight tableIsRight entryCount body ascii digitsWithin decimal signedText spaced rowText rowsText areaWithin fitsProgram entryDecoded entryStatus heading sizeText pictureText refusalText entryLines entryText joined output wholeCase
+unfolding allBelow tabulate zerosLike fits32 withSign walk paddedSize bandSize sizeAt subbandLevel detailOf orientationOf leftOf topOf subbandAt sizesInRange depthInRange waveletInRange countsInRange codeblocksInRange areaOf planesFit refusalOf bitAt present takeBit onBit codeFrom unsigned withSignBit signed factorOf quantFactor intraOffset quantOffset scaled dequantise going onNumber store value rectangleValues partStart codeblockArea onFlag codeblockValues codeblock codeblocks meanOf predictor storePredicted predictedValue predictedRow prediction boundary onRead headerAt goesOnAt subbandData checkedData headed predictedBand isPredicted codeblocksOf subbandFrom subband endedWith subbandsFrom unpacked deslauriersDubuc97 leGall53 deslauriersDubuc137 haarSteps haar haarWithShift fidelity daubechies97 filterOf changesEven adds clamp readPosition tapSum rounding update changes lift run runAll assigns newFit allNewFit pictureOf raster synthesisPasses interleave synthesis levelFits firstBadLevel pictureFrom badLevel accepted overflowed unchanged transformed synthesised decodeUnchanged zeroed decodeAccepted unpackedAndSynthesised decoded bigEndian codeblockCount codeblockCounts parametersAt offsetAt lengthAt bodyStart entryIsRight tableIsRight entryCount body ascii digitsWithin decimal signedText spaced rowText rowsText areaWithin fitsProgram entryDecoded entryStatus heading sizeText pictureText refusalText entryLines entryText joined output wholeCase
 computed = (refl, refl)
 
 pub whole-case-output : output wholeCase ≡ ascii "entry 0: 2 x 2\n9 12\n7 11\n"

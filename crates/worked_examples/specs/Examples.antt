@@ -65,8 +65,8 @@ table =
     ∷ signedCode 4 0b0011 is (minus 1 ∷ [])
     -- "factors 0 to 8 are 4, 5, 6, 7, 8, 10, 11, 13, 16"
     ∷ tabulate 9 (λ q. pos (quantFactor q)) is map pos (4 ∷ 5 ∷ 6 ∷ 7 ∷ 8 ∷ 10 ∷ 11 ∷ 13 ∷ 16 ∷ [])
-    -- "−3 at index 5 is −9"
-    ∷ (withSign (dequantise 5 3) true ∷ []) is (minus 9 ∷ [])
+    -- "−3 at index 5 is −9": document 01 has the intra offset alone
+    ∷ (withSign (dequantise true 5 3) true ∷ []) is (minus 9 ∷ [])
     -- "index 1 filters [10, 4] to [8, 12]"
     ∷ filtered 1 (pos 10 ∷ pos 4 ∷ []) is (pos 8 ∷ pos 12 ∷ [])
     -- "index 3 filters [7, −2] to [8, 6]"

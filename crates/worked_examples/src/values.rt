@@ -1,4 +1,4 @@
-// "index 115 and 116; 31 and 32 data bits; empty bytes (6, place 0); the extremes of 32 bits", by unpack.
+// "index 115 and 116; 31 and 32 data bits; empty bytes (6, place 0); the extremes of 32 bits", by unpack; and document 02's request Three.
 ghost use Prim.Native.Nat.{_≤_};
 ghost use lib.ListN.{length};
 use crate::output::print_case;
@@ -10,6 +10,13 @@ pub(crate) fn unpack_indices() {
     unpack_value(b"value 4 at index 115", b"\x2a\x21\x18");
     unpack_value(b"value 5 at index 115", b"\x2a\x21\x48");
     unpack_value(b"value 1 at index 116", b"\x2a\x23\x20");
+}
+
+// Unpacks values of pictures that are intra and not: "A magnitude 1 at index 12 reads 12 in intra and 11 otherwise."
+pub(crate) fn unpack_both_offsets() {
+    unpack_value(b"value 1 at index 12, intra", b"\x28\xc0\x20");
+    unpack_difference(b"value 1 at index 12, not intra", b"\x28\xc0\x20");
+    unpack_difference(b"value 1 at index 115, not intra", b"\x2a\x21\x20");
 }
 
 // Unpacks subbands whose length or index has 31 and 32 data bits, or ends within the 31st.
@@ -91,8 +98,14 @@ pub(crate) fn unpack_predicted_extremes() {
     );
 }
 
-// Unpacks one value, and writes the line of the case.
+// Unpacks one value of an intra picture, to which prediction adds 0, and writes the line of the case.
 fn unpack_value(case: &[u8], bytes: &[u8]) {
+    let mut plane = [7i32; 1];
+    unpack_and_print(case, row_of(1, true), bytes, &mut plane);
+}
+
+// Unpacks one value of a picture that is not intra, and writes the line of the case.
+fn unpack_difference(case: &[u8], bytes: &[u8]) {
     let mut plane = [7i32; 1];
     unpack_and_print(case, row_of(1, false), bytes, &mut plane);
 }

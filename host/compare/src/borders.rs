@@ -1,13 +1,18 @@
 //! Bodies for the borders of a fast reader: one that reads runs of zeros and short codes many bits at a
 //! time, and all else one value at a time. So rows end inside runs, codes of every length stand at every
 //! bit of a byte, data ends right behind its last code or inside it, and numbers, often small ones, have
-//! quantisers with which they just fit 32 bits or just do not.
+//! quantisers with which they just fit 32 bits or just do not, or show the rule of the offset.
 
-use crate::bodies::{random_bytes, Body};
+use crate::bodies::{fill_subband, random_bytes, random_entry, Body};
+use crate::scale::{
+    number_at_a_border, number_that_fits, number_that_shows_rule, small_number_that_fits,
+    small_number_too_large, Scale,
+};
 use reference::codes::{BitReader, PastEnd};
 use reference::encode::{EncodeOptions, SubbandOptions};
 use reference::params::{padded_area, padded_width, subbands, Parameters, Subband};
-use reference::unpack::{codeblock_start, quantiser_factor, quantiser_offset};
+use reference::unpack::codeblock_start;
+use vectors::offsets::indices_with_two_borders;
 use vectors::pieces::{self, subband_bytes};
 use vectors::random::Random;
 
@@ -68,31 +73,36 @@ pub fn put_runs(
     }
 }
 
-/// A body of runs, with numbers of a kind for a quantiser index of a kind.
+/// A body of runs, with numbers of a kind and quantiser indices of a kind.
 fn body_of_runs(
     random: &mut Random,
     p: &Parameters,
     index: fn(&mut Random) -> u32,
-    number: fn(&mut Random, u32) -> i64,
+    number: fn(&mut Random) -> i64,
 ) -> Body {
-    body_of_bands(random, p, index, |random, band, index, quantised| {
+    body_of_bands(random, p, index, |random, band, _, quantised| {
         let indices = reading_order(p, band);
-        put_runs(random, &indices, quantised, |random| number(random, index));
+        put_runs(random, &indices, quantised, number);
     })
 }
 
-/// A body whose subbands have a quantiser index of a kind, filled by a function of the subband and it.
+/// A body whose subbands have a quantiser index of a kind, filled by a function of the subband and of what
+/// its numbers are dequantised by.
 pub fn body_of_bands(
     random: &mut Random,
     p: &Parameters,
-    index: fn(&mut Random) -> u32,
-    fill: impl Fn(&mut Random, &Subband, u32, &mut [i64]),
+    index: impl Fn(&mut Random) -> u32,
+    fill: impl Fn(&mut Random, &Subband, Scale, &mut [i64]),
 ) -> Body {
     let mut quantised = vec![0; padded_area(p)];
     let mut options = Vec::new();
     for band in subbands(p) {
         let index = index(random);
-        fill(random, &band, index, &mut quantised);
+        let scale = Scale {
+            index,
+            intra: p.intra,
+        };
+        fill(random, &band, scale, &mut quantised);
         let mut option = SubbandOptions {
             quantiser: index.into(),
             ..pieces::random_options(random)
@@ -112,7 +122,7 @@ pub fn body_of_bands(
 /// A body of short codes with runs of zeros between them.
 pub fn runs_body(random: &mut Random, p: &Parameters) -> Body {
     let index = |random: &mut Random| random.range(0, 40) as u32;
-    body_of_runs(random, p, index, |random, _| {
+    body_of_runs(random, p, index, |random| {
         let bits = random.pick(&[4, 4, 6, 6, 8, 8, 10, 12]);
         number_of_code(random, bits)
     })
@@ -124,7 +134,7 @@ pub fn codes_body(random: &mut Random, p: &Parameters) -> Body {
         random,
         p,
         |_| 0,
-        |random, _| {
+        |random| {
             let any = 2 * random.range(2, LONGEST_CODE / 2);
             let bits = random.pick(&[any, any, 8, 10, 62, 64]);
             number_of_code(random, bits)
@@ -132,34 +142,99 @@ pub fn codes_body(random: &mut Random, p: &Parameters) -> Body {
     )
 }
 
-/// The largest number whose value fits 32 bits with an index.
-fn largest_that_fits(index: u32) -> i64 {
-    ((4 << 31) - 3 - quantiser_offset(index)) / quantiser_factor(index)
+/// Fills a subband with runs of zeros and large numbers between them. One that is predicted most often has
+/// one number, as prediction takes more of them out of 32 bits.
+fn put_large(
+    random: &mut Random,
+    p: &Parameters,
+    band: &Subband,
+    quantised: &mut [i64],
+    mut number: impl FnMut(&mut Random) -> i64,
+) {
+    let indices = reading_order(p, band);
+    if p.intra && band.level == 0 && random.range(0, 3) > 0 {
+        quantised[random.pick(&indices)] = number(random);
+    } else {
+        put_runs(random, &indices, quantised, number);
+    }
 }
 
-/// A number whose value fits 32 bits with an index, often just so.
-pub fn number_that_fits(random: &mut Random, index: u32) -> i64 {
-    let most = largest_that_fits(index);
-    let any = random.range(1, most);
-    random.pick(&[-1, 1]) * random.pick(&[1, most, any])
-}
-
-/// A body of numbers that just fit 32 bits with their quantiser indices; or all but one of them do. About
-/// half of the indices are any, the others so large that the numbers are small.
-pub fn just_fits_body(random: &mut Random, p: &Parameters) -> Body {
-    let index = |random: &mut Random| {
-        let least = random.pick(&[0, 104]);
-        random.range(least, 115) as u32
+/// Puts a number of a kind at some entry of some subband. In one that is predicted it is the only one, so
+/// that prediction refuses none that fits.
+fn put_one(
+    random: &mut Random,
+    p: &Parameters,
+    body: &mut Body,
+    number: fn(&mut Random, Scale) -> i64,
+) {
+    let bands = subbands(p);
+    let k = random.range(0, bands.len() as i64 - 1) as usize;
+    let scale = Scale {
+        index: body.options.subbands[k].quantiser as u32,
+        intra: p.intra,
     };
-    let mut body = body_of_runs(random, p, index, number_that_fits);
-    if random.range(0, 2) == 0 {
-        let bands = subbands(p);
-        let k = random.range(0, bands.len() as i64 - 1) as usize;
-        let index = body.options.subbands[k].quantiser as u32;
-        let entry = random.pick(&reading_order(p, &bands[k]));
-        body.quantised[entry] = random.pick(&[-1, 1]) * (largest_that_fits(index) + 1);
+    if p.intra && k == 0 {
+        fill_subband(&mut body.quantised, p, &bands[k], || 0);
+    }
+    let entry = random_entry(random, p, &bands[k]);
+    body.quantised[entry] = number(random, scale);
+}
+
+/// A body of numbers that just fit 32 bits with their quantiser indices; or all but one of them do, or one
+/// is about the largest that fits in a picture of the other kind. Some of the indices are any; more are so
+/// large that the numbers are small, and as many those with which the intra flag decides what fits.
+pub fn just_fits_body(random: &mut Random, p: &Parameters) -> Body {
+    let two_borders = indices_with_two_borders();
+    let index = |random: &mut Random| {
+        let (any, large) = (random.range(0, 115) as u32, random.range(104, 115) as u32);
+        let differs = random.pick(&two_borders);
+        random.pick(&[any, large, large, differs, differs])
+    };
+    let mut body = body_of_bands(random, p, index, |random, band, scale, quantised| {
+        put_large(random, p, band, quantised, |random| {
+            number_that_fits(random, scale)
+        });
+    });
+    if random.range(0, 3) > 0 {
+        put_one(random, p, &mut body, number_at_a_border);
     }
     body
+}
+
+/// A body for a reader that looks up the values of magnitudes up to 14 where all of them fit 32 bits, which
+/// is so with indices up to 108. About that index it has small numbers that fit, and one of a magnitude of
+/// 12 to 16 that most often does not.
+pub fn looked_up_body(random: &mut Random, p: &Parameters) -> Body {
+    let index = |random: &mut Random| {
+        let least = random.pick(&[106, 108]);
+        random.range(least, 115) as u32
+    };
+    let mut body = body_of_bands(random, p, index, |random, band, scale, quantised| {
+        put_large(random, p, band, quantised, |random| {
+            small_number_that_fits(random, scale)
+        });
+    });
+    put_one(random, p, &mut body, small_number_too_large);
+    body
+}
+
+/// A body of numbers that show the rule, wherever a number can. The indices are any, but most of them above
+/// 40, which few bodies of other kinds have.
+pub fn offsets_body(random: &mut Random, p: &Parameters) -> Body {
+    let index = |random: &mut Random| {
+        let least = random.pick(&[0, 41, 41, 41]);
+        random.range(least, 115) as u32
+    };
+    body_of_bands(random, p, index, |random, band, scale, quantised| {
+        let indices = reading_order(p, band);
+        // Prediction takes several out of 32 bits.
+        if !p.intra || band.level > 0 {
+            put_runs(random, &indices, quantised, |random| {
+                number_that_shows_rule(random, scale)
+            });
+        }
+        quantised[random.pick(&indices)] = number_that_shows_rule(random, scale);
+    })
 }
 
 /// The bytes of a body whose data ends up to 10 bytes behind the last code of a subband, or before it
@@ -216,7 +291,6 @@ pub fn with_other_data(part: &[u8], change: impl FnOnce(&mut Vec<u8>)) -> Vec<u8
 mod tests {
     use super::*;
     use reference::codes::BitWriter;
-    use reference::unpack::dequantise;
 
     #[test]
     fn numbers_have_codes_of_the_length_asked_for() {
@@ -231,15 +305,6 @@ mod tests {
                 assert_eq!(writer.to_bytes(false).len() as i64, bits / 8 + 1);
                 assert!(i32::try_from(number).is_ok());
             }
-        }
-    }
-
-    #[test]
-    fn the_largest_number_that_fits_is_the_last() {
-        for index in 0..=115 {
-            let most = largest_that_fits(index);
-            assert!(dequantise(most, index) < 1 << 31);
-            assert!(dequantise(most + 1, index) >= 1 << 31);
         }
     }
 }

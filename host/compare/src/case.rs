@@ -4,7 +4,9 @@ use crate::bodies::{
     change_length, faulty_bytes, flip_bits, lossless_body, noise, picture_body, random_body,
     random_data,
 };
-use crate::borders::{codes_body, ends_bytes, just_fits_body, runs_body};
+use crate::borders::{
+    codes_body, ends_bytes, just_fits_body, looked_up_body, offsets_body, runs_body,
+};
 use crate::parameters::{
     put_out_of_range, random_parameters, rectangle_parameters, row_parameters,
 };
@@ -40,9 +42,15 @@ pub enum Kind {
     Codes,
     /// Data that ends right behind its last code, or inside it.
     Ends,
-    /// Numbers that just fit 32 bits with their quantiser index, or just do not: any index, and often
-    /// one so large that the numbers are small.
+    /// Numbers that just fit 32 bits with their quantiser index, or just do not, in the picture or in one
+    /// of the other kind, intra or not: any index, often one so large that the numbers are small, and often
+    /// one with which the intra flag decides.
     JustFits,
+    /// Numbers about the last whose value a reader may look up, with quantiser indices about the last with
+    /// which all such values fit 32 bits.
+    LookedUp,
+    /// Numbers whose value the intra flag decides, with any quantiser index, at every level.
+    Offsets,
     /// Codeblocks whose rows are read many at once or just are not, and zeros about their ends.
     Rectangles,
     /// Headers in order, data at random.
@@ -56,24 +64,26 @@ pub enum Kind {
 }
 
 /// How many of a hundred cases are of a kind.
-const SHARES: [(Kind, u32); 17] = [
-    (Kind::Valid, 9),
+const SHARES: [(Kind, u32); 19] = [
+    (Kind::Valid, 8),
     (Kind::Picture, 4),
-    (Kind::Cut, 6),
-    (Kind::Flipped, 7),
-    (Kind::Length, 5),
-    (Kind::Fault, 13),
-    (Kind::Extreme, 6),
+    (Kind::Cut, 5),
+    (Kind::Flipped, 6),
+    (Kind::Length, 4),
+    (Kind::Fault, 10),
+    (Kind::Extreme, 5),
     (Kind::Sized, 5),
     (Kind::Runs, 5),
     (Kind::Codes, 4),
     (Kind::Ends, 4),
-    (Kind::JustFits, 3),
+    (Kind::JustFits, 6),
+    (Kind::LookedUp, 4),
+    (Kind::Offsets, 4),
     (Kind::Rectangles, 10),
     (Kind::Data, 4),
-    (Kind::Noise, 3),
-    (Kind::Parameters, 7),
-    (Kind::Planes, 5),
+    (Kind::Noise, 2),
+    (Kind::Parameters, 6),
+    (Kind::Planes, 4),
 ];
 
 /// One component: a call of each job.
@@ -102,7 +112,11 @@ impl Case {
             _ => 0,
         };
         let p = match kind {
-            Kind::Runs | Kind::Codes | Kind::Ends | Kind::JustFits => row_parameters(&mut random),
+            Kind::Runs | Kind::Codes | Kind::Ends => row_parameters(&mut random),
+            Kind::JustFits | Kind::LookedUp => Parameters {
+                intra: random.flag(),
+                ..row_parameters(&mut random)
+            },
             Kind::Rectangles => rectangle_parameters(&mut random),
             _ => random_parameters(&mut random, least_depth),
         };
@@ -222,6 +236,8 @@ fn random_bytes(random: &mut Random, kind: Kind, p: &Parameters) -> Vec<u8> {
         Kind::Codes => codes_body(random, p).bytes(p),
         Kind::Ends => ends_bytes(random, p),
         Kind::JustFits => just_fits_body(random, p).bytes(p),
+        Kind::LookedUp => looked_up_body(random, p).bytes(p),
+        Kind::Offsets => offsets_body(random, p).bytes(p),
         Kind::Rectangles => rectangles_bytes(random, p),
         Kind::Data => random_data(random, p),
         Kind::Noise => noise(random),

@@ -20,6 +20,7 @@ mod recording_statistics;
 mod recordings;
 mod rectangles;
 pub mod round_trip;
+mod scale;
 mod statistics;
 pub mod work;
 

@@ -3,9 +3,8 @@
 //! stand at the ends of rows, zeros end about the end of a run, go on past it or fill it, the last values
 //! are of every kind, and data ends inside them.
 
-use crate::borders::{
-    body_of_bands, number_of_code, number_that_fits, put_runs, with_other_data, with_other_end,
-};
+use crate::borders::{body_of_bands, number_of_code, put_runs, with_other_data, with_other_end};
+use crate::scale::{number_that_fits, Scale};
 use reference::params::{padded_width, Parameters, Subband};
 use reference::unpack::codeblock_start;
 use vectors::random::Random;
@@ -42,42 +41,42 @@ fn runs(p: &Parameters, band: &Subband) -> Vec<RowsOfRun> {
 }
 
 /// A short code's number, or a longer one now and then; with a large index one that fits.
-fn random_number(random: &mut Random, index: u32) -> i64 {
-    if index >= LARGE_INDEX {
-        return number_that_fits(random, index);
+fn random_number(random: &mut Random, scale: Scale) -> i64 {
+    if scale.index >= LARGE_INDEX {
+        return number_that_fits(random, scale);
     }
     let bits = random.pick(&[4, 4, 4, 6, 6, 8, 10, 12]);
     number_of_code(random, bits)
 }
 
 /// Puts numbers at the ends of rows alone.
-fn put_row_ends(random: &mut Random, run: &RowsOfRun, index: u32, quantised: &mut [i64]) {
+fn put_row_ends(random: &mut Random, run: &RowsOfRun, scale: Scale, quantised: &mut [i64]) {
     for row in run {
         for entry in [row[0], row[row.len() - 1]] {
             if random.range(0, 3) > 0 {
-                quantised[entry] = random_number(random, index);
+                quantised[entry] = random_number(random, scale);
             }
         }
     }
 }
 
 /// Puts numbers with runs of zeros between them up to one near the end; none where there is no room.
-fn put_numbers(random: &mut Random, run: &RowsOfRun, index: u32, quantised: &mut [i64]) {
+fn put_numbers(random: &mut Random, run: &RowsOfRun, scale: Scale, quantised: &mut [i64]) {
     let indices = run.concat();
     let tail = random.range(0, 19) as usize;
     let Some(last) = indices.len().checked_sub(1 + tail) else {
         return;
     };
     put_runs(random, &indices[..last], quantised, |random| {
-        random_number(random, index)
+        random_number(random, scale)
     });
-    quantised[indices[last]] = random_number(random, index);
+    quantised[indices[last]] = random_number(random, scale);
 }
 
 /// Puts a number with a long code, so that a reader takes up the data anew behind it, where 1 to 35 values
 /// are left, or about 64. The last few may be anything; more are zeros, but now and then for the first of
 /// many and for one of the last two.
-fn put_tail(random: &mut Random, run: &RowsOfRun, index: u32, quantised: &mut [i64]) {
+fn put_tail(random: &mut Random, run: &RowsOfRun, scale: Scale, quantised: &mut [i64]) {
     let indices = run.concat();
     let any = random.range(1, 35);
     let (about_32, about_64) = (random.range(31, 33), random.range(39, 66));
@@ -85,8 +84,8 @@ fn put_tail(random: &mut Random, run: &RowsOfRun, index: u32, quantised: &mut [i
     let Some(before) = indices.len().checked_sub(1 + left) else {
         return;
     };
-    let number = match index {
-        LARGE_INDEX.. => number_that_fits(random, index),
+    let number = match scale.index {
+        LARGE_INDEX.. => number_that_fits(random, scale),
         _ => number_of_code(random, 10),
     };
     quantised[indices[before]] = number;
@@ -95,31 +94,31 @@ fn put_tail(random: &mut Random, run: &RowsOfRun, index: u32, quantised: &mut [i
     if left < 7 {
         for &at in tail {
             if random.range(0, 1) == 0 {
-                quantised[at] = random_number(random, index);
+                quantised[at] = random_number(random, scale);
             }
         }
     } else if (1..=2).contains(&from_end) {
-        quantised[tail[left - from_end as usize]] = random_number(random, index);
+        quantised[tail[left - from_end as usize]] = random_number(random, scale);
     } else if left > 35 {
-        quantised[tail[0]] = random_number(random, index);
+        quantised[tail[0]] = random_number(random, scale);
     }
 }
 
 /// Puts a number at every entry.
-fn put_everywhere(random: &mut Random, run: &RowsOfRun, index: u32, quantised: &mut [i64]) {
+fn put_everywhere(random: &mut Random, run: &RowsOfRun, scale: Scale, quantised: &mut [i64]) {
     for &entry in run.iter().flatten() {
-        quantised[entry] = random_number(random, index);
+        quantised[entry] = random_number(random, scale);
     }
 }
 
 /// Fills the runs of a subband, or leaves some of them zero.
-fn fill(random: &mut Random, p: &Parameters, band: &Subband, index: u32, quantised: &mut [i64]) {
+fn fill(random: &mut Random, p: &Parameters, band: &Subband, scale: Scale, quantised: &mut [i64]) {
     for run in runs(p, band) {
         match random.range(0, 15) {
-            0..=4 => put_row_ends(random, &run, index, quantised),
-            5..=9 => put_numbers(random, &run, index, quantised),
-            10..=13 => put_tail(random, &run, index, quantised),
-            14 => put_everywhere(random, &run, index, quantised),
+            0..=4 => put_row_ends(random, &run, scale, quantised),
+            5..=9 => put_numbers(random, &run, scale, quantised),
+            10..=13 => put_tail(random, &run, scale, quantised),
+            14 => put_everywhere(random, &run, scale, quantised),
             _ => (),
         }
     }
@@ -132,8 +131,8 @@ pub fn rectangles_bytes(random: &mut Random, p: &Parameters) -> Vec<u8> {
         let any = random.range(0, 40) as u32;
         random.pick(&[any, any, any, any, any, any, any, LARGE_INDEX + any % 12])
     };
-    let body = body_of_bands(random, p, index, |random, band, index, quantised| {
-        fill(random, p, band, index, quantised);
+    let body = body_of_bands(random, p, index, |random, band, scale, quantised| {
+        fill(random, p, band, scale, quantised);
     });
     let parts = body.subbands(p);
     let ended = parts.iter().flat_map(|part| match random.range(0, 3) {

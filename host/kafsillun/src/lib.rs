@@ -1,9 +1,9 @@
 //! A safe interface to the proved decoder of Dirac wavelet pictures.
 //!
-//! The decoder works on one component at a time: core syntax with variable-length codes, one quantiser
-//! for each subband, skipped codeblocks, intra DC prediction, the inverse transform and the removal of
-//! padding. There are three jobs: [`unpack`] makes coefficients of bytes, [`synthesise`] makes samples
-//! of coefficients, [`decode`] does both.
+//! The decoder works on one component at a time, of an intra picture or of a difference picture: core
+//! syntax with variable-length codes, one quantiser for each subband, skipped codeblocks, intra DC
+//! prediction, the inverse transform and the removal of padding. There are three jobs: [`unpack`] makes
+//! coefficients of bytes, [`synthesise`] makes samples of coefficients, [`decode`] does both.
 //!
 //! Data are planes of `i32` that the caller provides. A coefficient or work plane needs exactly
 //! [`Parameters::padded_area`] entries, a sample plane exactly [`Parameters::sample_area`]; what they
@@ -65,6 +65,14 @@ pub use parameters::Parameters;
 /// let bytes = [0b011_00011, 0b0010_0111, 0b000010_00, 0xFF];
 /// assert_eq!(unpack(&Parameters::new(3, 1), &bytes, &mut coefficients), Ok(3));
 /// assert_eq!(coefficients, [3, -5, 7]);
+///
+/// // The number 1 at index 12, in an intra picture and in a difference picture.
+/// for (intra, value) in [(true, 12), (false, 11)] {
+///     let p = Parameters { intra, ..Parameters::new(1, 1) };
+///     let bytes = [0b001_01000, 0b11_000000, 0b0010_0000];
+///     assert_eq!(unpack(&p, &bytes, &mut coefficients[..1]), Ok(3));
+///     assert_eq!(coefficients[0], value);
+/// }
 /// ```
 pub fn unpack(p: &Parameters, bytes: &[u8], coefficients: &mut [i32]) -> Result<usize, Error> {
     // SAFETY: each pointer and length are of one slice, and the slices are apart.

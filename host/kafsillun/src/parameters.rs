@@ -30,7 +30,8 @@ pub struct Parameters {
     /// The wavelet index, 0..=6: Deslauriers-Dubuc (9,7), LeGall (5,3), Deslauriers-Dubuc (13,7), Haar
     /// without a shift, Haar with a shift, Fidelity, Daubechies (9,7).
     pub wavelet: u32,
-    /// Whether level 0 is predicted.
+    /// Whether the picture is intra: then level 0 is predicted. A picture that isn't, such as a difference
+    /// between frames, also has another offset in dequantising, in every subband.
     pub intra: bool,
     /// Codeblocks across for each level, 1..=255. Those above the depth are not looked at.
     pub codeblocks_across: [u32; 5],

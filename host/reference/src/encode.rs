@@ -169,15 +169,16 @@ pub enum Rounding {
     Nearest,
 }
 
-/// A value quantised with an index 0..115.
-pub fn quantise(value: i64, index: u32, rounding: Rounding) -> i64 {
+/// A value quantised with an index 0..115, in a picture that is intra or isn't; [`Rounding::Floor`] doesn't
+/// look at that.
+pub fn quantise(value: i64, index: u32, intra: bool, rounding: Rounding) -> i64 {
     let magnitude = i128::from(value).abs();
     let floor = i64::try_from(4 * magnitude / i128::from(quantiser_factor(index)))
         .expect("the factor is 4 or more");
     let m = match rounding {
         Rounding::Floor => floor,
         Rounding::Nearest => (0.max(floor - 1)..=floor + 1)
-            .min_by_key(|&m| (dequantise(m, index) - magnitude).abs())
+            .min_by_key(|&m| (dequantise(m, index, intra) - magnitude).abs())
             .expect("never empty"),
     };
     if value < 0 {
@@ -187,8 +188,9 @@ pub fn quantise(value: i64, index: u32, rounding: Rounding) -> i64 {
     }
 }
 
-/// A coefficient plane quantised with one index for each subband in stream order; if intra, level 0
-/// is quantised without its prediction, which is made from the values unpacking will find.
+/// A coefficient plane quantised with one index for each subband in stream order, for the values that
+/// unpacking will find in a picture of these parameters. If intra, level 0 is quantised without its
+/// prediction, which is made from those values.
 ///
 /// Near the extremes of 32 bits the quantised plane may unpack to a value outside them (status 9).
 pub fn quantise_plane(
@@ -213,8 +215,8 @@ pub fn quantise_plane(
                     0
                 };
                 let residual = i64::from(coefficients[entry]) - predicted;
-                quantised[entry] = quantise(residual, index, rounding);
-                let value = i64::try_from(dequantise(quantised[entry], index))
+                quantised[entry] = quantise(residual, index, p.intra, rounding);
+                let value = i64::try_from(dequantise(quantised[entry], index, p.intra))
                     .expect("a value near a coefficient");
                 unpacked[entry] = value + predicted;
             }

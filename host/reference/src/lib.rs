@@ -1,8 +1,8 @@
 //! A plain reference decoder for Dirac wavelet pictures.
 //!
-//! It states the rules of document 01, and of document 02's request One, as directly as it can, and is
-//! used to judge other decoders: clarity comes before speed. Intermediate numbers have 64 or 128 bits and
-//! never wrap.
+//! It states the rules of document 01, and of document 02's requests One and Three, as directly as it can,
+//! and is used to judge other decoders: clarity comes before speed. Intermediate numbers have 64 or 128 bits
+//! and never wrap.
 //!
 //! The three jobs are [`unpack()`], [`synthesise`] and [`decode`]; [`analyse`] is the forward
 //! transform; [`mod@encode`] makes bodies for tests; [`recording`] reads and writes recordings;

@@ -1,6 +1,7 @@
 //! Bytes to coefficients.
 //!
-//! States document 01, "One subband" and "Dequantising".
+//! States document 01, "One subband" and "Dequantising", and document 02, "Difference pictures have another
+//! offset" (request Three).
 
 use crate::codes::{BitReader, PastEnd};
 use crate::params::{
@@ -79,7 +80,7 @@ fn unpack_codeblocks(
                 for x in codeblock_start(band.width, block_x, across)
                     ..codeblock_start(band.width, block_x + 1, across)
                 {
-                    let value = dequantise(reader.signed_number()?, quantiser);
+                    let value = dequantise(reader.signed_number()?, quantiser, p.intra);
                     plane[(band.top + y) * row_width + band.left + x] =
                         i32::try_from(value).map_err(|_| COEFFICIENT_RANGE)?;
                 }
@@ -136,23 +137,33 @@ pub fn quantiser_factor(index: u32) -> i64 {
     }
 }
 
-/// The offset of a quantiser index 0..115 (document 01, "Dequantising").
-pub fn quantiser_offset(index: u32) -> i64 {
-    match index {
-        0 => 1,
-        1 => 2,
-        _ => (quantiser_factor(index) + 1) / 2,
+/// The offset of a quantiser index 0..115, in every subband of a picture that is intra or isn't.
+///
+/// Document 01, "Dequantising": "Offset: 1 for q = 0, 2 for q = 1, else floor((factor + 1)/2)." Document 02,
+/// "Difference pictures have another offset": "For a picture that isn't intra, the offset is 1 at index 0,
+/// else floor((3·factor + 4)/8)."
+pub fn quantiser_offset(index: u32, intra: bool) -> i64 {
+    let factor = quantiser_factor(index);
+    match (index, intra) {
+        (0, _) => 1,
+        (1, true) => 2,
+        (_, true) => (factor + 1) / 2,
+        (_, false) => (3 * factor + 4) / 8,
     }
 }
 
-/// The value of a quantised number, which may lie outside 32 bits (document 01, "Dequantising").
-pub fn dequantise(quantised: i64, index: u32) -> i128 {
+/// The value of a quantised number, which may lie outside 32 bits, in a picture that is intra or isn't.
+///
+/// Document 01, "Dequantising": "Magnitude m > 0 becomes floor((m·factor + offset + 2)/4); 0 stays 0; the
+/// sign is kept." Document 02, "Difference pictures have another offset": "A magnitude 1 at index 12 reads
+/// 12 in intra and 11 otherwise."
+pub fn dequantise(quantised: i64, index: u32, intra: bool) -> i128 {
     let m = i128::from(quantised).abs();
     if m == 0 {
         return 0;
     }
     let factor = i128::from(quantiser_factor(index));
-    let offset = i128::from(quantiser_offset(index));
+    let offset = i128::from(quantiser_offset(index, intra));
     let magnitude = (m * factor + offset + 2) / 4;
     if quantised < 0 {
         -magnitude

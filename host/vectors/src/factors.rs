@@ -24,11 +24,12 @@ pub fn factors() -> String {
     )
 }
 
-/// Whether a number becomes another value if the factor of an index is one less, and also if it is one more.
-/// The offset is the right factor's; one made of the wrong factor would take the value no nearer.
-pub fn shows_factor(number: i64, index: u32) -> bool {
+/// Whether a number becomes another value if the factor of an index is one less, and also if it is one more, in
+/// a picture that is intra or isn't. The offset is the right factor's; one made of the wrong factor would take
+/// the value no nearer.
+pub fn shows_factor(number: i64, index: u32, intra: bool) -> bool {
     let factor = i128::from(quantiser_factor(index));
-    let offset = i128::from(quantiser_offset(index));
+    let offset = i128::from(quantiser_offset(index, intra));
     let value = |factor| (i128::from(number.abs()) * factor + offset + 2) / 4;
     value(factor - 1) != value(factor) && value(factor) != value(factor + 1)
 }

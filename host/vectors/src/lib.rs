@@ -6,16 +6,21 @@
 //! comes from the reference.
 //!
 //! [`mod@synthesis_vectors`] and [`mod@unpack_vectors`] make the stored jobs of the two proved programs
-//! of these names, [`recording_vectors`] (with [`mod@refused_recordings`], [`mod@left_over_recordings`] and
-//! [`wrong_tables`]) and [`mod@samples`] the stored recordings. They share the generator [`random`], the
-//! [`pieces`] of bodies, [`pictures`], [`levels`] of synthesis and [`runs`] of the three jobs.
-//! [`mod@factors`] has the table that the proved code reads factors from. [`command_line`] is what all
-//! commands above the reference read theirs with.
+//! of these names, [`recording_vectors`] (with [`mod@difference_recordings`], [`mod@refused_recordings`],
+//! [`mod@left_over_recordings`] and [`wrong_tables`]) and [`mod@samples`] the stored recordings. They share the
+//! generator [`random`], the [`pieces`] of bodies, [`pictures`], [`levels`] of synthesis and [`runs`] of the
+//! three jobs. [`mod@factors`] has the table that the proved code reads factors from, [`offsets`] the numbers
+//! that show an offset, [`mod@headers`] what the headers of a body state. [`command_line`] is what all commands
+//! above the reference read theirs with.
 
 pub mod command_line;
+pub mod difference_recordings;
 pub mod factors;
+pub mod headers;
 pub mod left_over_recordings;
 pub mod levels;
+mod offset_jobs;
+pub mod offsets;
 pub mod pictures;
 pub mod pieces;
 pub mod random;

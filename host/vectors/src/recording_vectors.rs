@@ -5,9 +5,11 @@
 //! [`read_recording`], so the files are the same in every run.
 //!
 //! Here are recordings of accepted entries, and of accepted ones beside refused ones;
-//! [`crate::refused_recordings`] has those made for refusals 1 to 10, [`crate::left_over_recordings`] those
-//! for 12, [`crate::wrong_tables`] those whose table is wrong or nearly so.
+//! [`crate::difference_recordings`] has those made for the offset of difference pictures,
+//! [`crate::refused_recordings`] those for refusals 1 to 10, [`crate::left_over_recordings`] those for 12,
+//! [`crate::wrong_tables`] those whose table is wrong or nearly so.
 
+use crate::difference_recordings::difference_recordings;
 use crate::left_over_recordings::left_over_recordings;
 use crate::pictures::{encode_coefficients, picture_coefficients};
 use crate::pieces::{
@@ -53,6 +55,7 @@ pub fn recordings() -> Vec<Recording> {
         area_recordings(),
         codeblock_recordings(),
         quantiser_recordings(),
+        difference_recordings(),
         byte_recordings(),
         extreme_recordings(),
         entry_recordings(),

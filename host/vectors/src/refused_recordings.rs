@@ -120,7 +120,8 @@ const FAULTS: [(&str, Fault); 19] = [
         joined(values(band, 0, MIN - 1), behind)
     }),
     ("refused-9-through-a-factor", |band, behind| {
-        let too_large = |&m: &i64| dequantise(m, 100) > i128::from(MAX);
+        // Too large with the smaller of the two offsets, so with both.
+        let too_large = |&m: &i64| dequantise(m, 100, false) > i128::from(MAX);
         let m = (1..).find(too_large).expect("a number that is too large");
         joined(values(band, 100, -m), behind)
     }),

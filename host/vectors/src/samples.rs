@@ -4,17 +4,19 @@ use crate::pieces::{plain, with_codeblocks};
 use crate::random::Random;
 use crate::recording_vectors::{entry_of, picture_entry, Recording};
 use reference::encode::{encode_body, EncodeOptions, SubbandOptions};
-use reference::params::{subbands, Parameters};
+use reference::params::{subbands, Parameters, Subband};
 use reference::recording::Entry;
 
-/// The samples: document 01's whole case, the edge of a pad, and the two faults of document 02, "Left-over
-/// bytes are a fault".
+/// The samples: document 01's whole case, the edge of a pad, the two faults of document 02, "Left-over bytes are
+/// a fault", and two frames as the second camera of document 02, "Difference pictures have another offset",
+/// stores them.
 pub fn samples() -> Vec<Recording> {
     vec![
         Recording::new("whole-case", &[whole_case()]),
         Recording::new("pad-edge", &[pad_edge()]),
         Recording::new("cut-at-the-wrong-entry", &cut_at_the_wrong_entry()),
         Recording::new("padded-by-old-firmware", &padded_by_old_firmware()),
+        Recording::new("frame-and-difference", &frame_and_difference()),
     ]
 }
 
@@ -97,14 +99,63 @@ pub fn pad_edge_picture() -> Vec<i64> {
 /// The entry of that picture: coarser steps for finer levels.
 fn pad_edge() -> Entry {
     let p = pad_edge_parameters();
-    let options = EncodeOptions {
-        subbands: subbands(&p)
-            .iter()
-            .map(|band| SubbandOptions {
-                quantiser: [0, 4, 8, 10][band.level as usize],
-                ..SubbandOptions::default()
-            })
-            .collect(),
-    };
+    let options = options_by_level(&p, &[0, 4, 8, 10]);
     picture_entry(&p, &pad_edge_picture(), &options)
+}
+
+/// The quantiser index of each level, in every subband of it.
+fn options_by_level(p: &Parameters, indices: &[u64]) -> EncodeOptions {
+    let options = |band: &Subband| SubbandOptions {
+        quantiser: indices[band.level as usize],
+        ..SubbandOptions::default()
+    };
+    EncodeOptions {
+        subbands: subbands(p).iter().map(options).collect(),
+    }
+}
+
+/// The parameters of a frame of the second camera, or of the difference of two.
+pub fn frame_parameters(intra: bool) -> Parameters {
+    plain(16, 8, 2, 1, intra)
+}
+
+/// Two frames before they are coded: a dark part on the left and a bright one on the right, with a grain of a
+/// step or none. In the second the lower half of the edge between them is a column further right.
+pub fn two_frames() -> [Vec<i64>; 2] {
+    let p = frame_parameters(true);
+    let mut random = Random::new(35);
+    [0, 1].map(|moved| {
+        let mut samples = Vec::new();
+        for y in 0..i64::from(p.height) {
+            for x in 0..i64::from(p.width) {
+                let edge = if y < 4 { 7 } else { 7 + moved };
+                let grain = random.range(0, 1);
+                samples.push(grain + if x < edge { -40 } else { 60 });
+            }
+        }
+        samples
+    })
+}
+
+/// The second frame less the first.
+pub fn difference_of_frames() -> Vec<i64> {
+    let [first, second] = two_frames();
+    second.iter().zip(&first).map(|(b, a)| b - a).collect()
+}
+
+/// The first frame, which is intra, and the difference to the second, which isn't and has coarser steps.
+fn frame_and_difference() -> [Entry; 2] {
+    let (intra, other) = (frame_parameters(true), frame_parameters(false));
+    [
+        picture_entry(
+            &intra,
+            &two_frames()[0],
+            &options_by_level(&intra, &[0, 2, 4]),
+        ),
+        picture_entry(
+            &other,
+            &difference_of_frames(),
+            &options_by_level(&other, &[8, 14, 16]),
+        ),
+    ]
 }

@@ -15,6 +15,7 @@
 //! The bytes come from [`mod@reference::encode`], a seeded generator, or single bits, and every answer and
 //! plane from [`reference::unpack()`], so the vectors are the same in every run.
 
+use crate::offset_jobs::offset_jobs;
 use crate::pieces::{
     self, bits, joined, numbers, random_body, signed_numbers, sparse_body, subband_bytes,
     with_codeblocks, with_random_codeblocks, EARLY_ENDS_OF_ONE, EARLY_ENDS_OF_TWO, LARGEST_NUMBER,
@@ -58,6 +59,7 @@ pub fn unpack_jobs() -> Vec<UnpackJob> {
     jobs.extend(early_end_jobs());
     jobs.extend(codeblock_jobs(&mut random));
     jobs.extend(index_jobs());
+    jobs.extend(offset_jobs());
     jobs.extend(random_jobs(&mut random));
     jobs.extend(cut_jobs(&mut random));
     jobs.extend(noise_jobs(&mut random));
@@ -106,12 +108,12 @@ fn job_text(job: &UnpackJob) -> String {
 }
 
 /// Parameters with one codeblock at every level; unpack doesn't look at the wavelet.
-fn plain(width: u32, height: u32, depth: u32, intra: bool) -> Parameters {
+pub(crate) fn plain(width: u32, height: u32, depth: u32, intra: bool) -> Parameters {
     pieces::plain(width, height, depth, 0, intra)
 }
 
 /// A job whose plane has the length it needs.
-fn job(p: &Parameters, bytes: Vec<u8>) -> UnpackJob {
+pub(crate) fn job(p: &Parameters, bytes: Vec<u8>) -> UnpackJob {
     UnpackJob {
         parameters: p.clone(),
         plane_length: padded_area(p),
@@ -457,16 +459,20 @@ fn codeblock_jobs(random: &mut Random) -> Vec<UnpackJob> {
     jobs
 }
 
-/// Every quantiser index, with the numbers 0, 1, -1, 2, -3 and 100, or 4 where 100 would not fit 32 bits.
+/// Every quantiser index, with the numbers 0, 1, -1, 2, -3 and 100, or 4 where 100 would not fit 32 bits: as the
+/// whole of a picture that isn't intra, and as a subband of level 1, which isn't predicted, of one that is.
 fn index_jobs() -> Vec<UnpackJob> {
-    let p = plain(6, 1, 0, false);
-    (0..=116)
-        .map(|index| {
-            let most = if index < 98 { 100 } else { 4 };
-            let data = signed_numbers(&[0, 1, -1, 2, -3, most]);
-            job(&p, subband_bytes(index, &data))
-        })
-        .collect()
+    let alone = plain(6, 1, 0, false);
+    let at_level_1 = plain(12, 2, 1, true);
+    let mut jobs = Vec::new();
+    for index in 0..=116 {
+        let most = if index < 98 { 100 } else { 4 };
+        let data = signed_numbers(&[0, 1, -1, 2, -3, most]);
+        let band = subband_bytes(index, &data);
+        jobs.push(job(&alone, band.clone()));
+        jobs.push(job(&at_level_1, [&[0x80], &band[..], &[0x80; 2]].concat()));
+    }
+    jobs
 }
 
 /// Every depth at several sizes, intra and not, with indices, codeblocks and layouts at random, and

@@ -3,9 +3,14 @@
 use compare::round_trip::{RoundTrip, RoundTrips};
 use compare::work::Tally;
 use compare::work::Work;
-use compare::{check, plane_of_kind, proved, Case, Kind, PlaneKind, Statistics};
+use compare::{
+    check, plane_of_kind, proved, reference, Buffers, Case, Decoder, Job, Kind, PlaneKind,
+    Statistics,
+};
 use reference::params::padded_area;
-use vectors::pieces;
+use reference::unpack::quantiser_factor;
+use reference::{Answer, Parameters};
+use vectors::pieces::{self, signed_numbers, subband_bytes};
 use vectors::random::Random;
 
 /// So many seeds from 1 on.
@@ -97,4 +102,53 @@ fn wide_pictures_of_large_numbers_are_alike() {
     }
     let [accepted, refused] = answers;
     assert!(accepted > 80 && refused > 80, "{answers:?}");
+}
+
+/// What a decoder's unpack answers, and the plane.
+fn unpacked(decoder: Decoder, p: &Parameters, bytes: &[u8]) -> (Answer, Vec<i32>) {
+    let mut coefficients = vec![-1; padded_area(p)];
+    let buffers = Buffers {
+        bytes,
+        coefficients: &mut coefficients,
+        work: &mut [],
+        samples: &mut [],
+    };
+    (decoder(p, Job::Unpack, buffers), coefficients)
+}
+
+/// A component of one number among 80 values, in level 0 or in level 1.
+fn component_of_one(index: u32, number: i64, at: usize, level: u32) -> (Parameters, Vec<u8>) {
+    let mut row = [0; 80];
+    row[at] = number;
+    let band = subband_bytes(index.into(), &signed_numbers(&row));
+    let p = pieces::plain(80 << level, 1 << level, level, 0, false);
+    let bytes = match level {
+        0 => band,
+        _ => [vec![0x80], band, vec![0x80; 2]].concat(),
+    };
+    (p, bytes)
+}
+
+/// Both offsets at every index: the small numbers whose values may be looked up and the next ones, and those
+/// about the largest that fit 32 bits; where many bits follow, which a lookup needs, and where none does.
+#[test]
+fn numbers_about_every_border_are_alike() {
+    let mut answers = [0; 2];
+    for index in 0..=115 {
+        let about = (4 << 31) / quantiser_factor(index);
+        let sizes = (1..=16).chain(about - 2..=about + 2);
+        let numbers = sizes.flat_map(|size| [-size, size]);
+        for (number, at) in numbers.flat_map(|number| [(number, 3), (number, 79)]) {
+            for (level, intra) in [(0, false), (0, true), (1, false), (1, true)] {
+                let (mut p, bytes) = component_of_one(index, number, at, level);
+                p.intra = intra;
+                let ours = unpacked(proved, &p, &bytes);
+                let is_alike = ours == unpacked(reference, &p, &bytes);
+                assert!(is_alike, "index {index}, number {number}, {p:?}");
+                answers[usize::from(ours.0.status == 9)] += 1;
+            }
+        }
+    }
+    let [accepted, refused] = answers;
+    assert!(accepted > 30_000 && refused > 5000, "{answers:?}");
 }

@@ -1,10 +1,13 @@
 //! The codes of the bodies that cases have.
 
-use compare::{check, reference, Case, Kind};
+use compare::{Case, Kind};
 use reference::codes::{BitReader, PastEnd};
-use reference::params::{padded_width, subbands, Parameters, Subband};
-use reference::unpack::codeblock_start;
+use reference::params::{padded_width, Subband, COEFFICIENT_RANGE};
+use reference::transform::fits_32_bits;
+use reference::unpack::{codeblock_start, dequantise};
+use reference::{Answer, Parameters};
 use std::sync::OnceLock;
+use vectors::headers::{headers, Header};
 
 /// A codeblock.
 #[derive(Clone, Copy)]
@@ -143,22 +146,12 @@ fn read_data(p: &Parameters, band: Subband, index: u64, data: &[u8]) -> Read {
 
 /// What is read of each subband of a body in order that is not skipped.
 pub fn bands_read(p: &Parameters, bytes: &[u8]) -> Vec<Read> {
-    let mut start = 0;
-    let mut list = Vec::new();
-    for band in subbands(p) {
-        let mut header = BitReader::new(&bytes[start..], PastEnd::Missing);
-        let length = header.number().unwrap() as usize;
-        if length == 0 {
-            start += header.align();
-            continue;
-        }
-        let index = header.number().unwrap();
-        start += header.align();
-        let data = &bytes[start..start + length];
-        list.push(read_data(p, band, index, data));
-        start += length;
-    }
-    list
+    let read = |header: Header| {
+        let data = &bytes[header.data];
+        Some(read_data(p, header.band, header.index?, data))
+    };
+    let headers = headers(p, bytes).expect("a body in order");
+    headers.into_iter().filter_map(read).collect()
 }
 
 /// The codes of each subband of a body in order, with the quantiser index.
@@ -179,6 +172,33 @@ pub fn cases(kind: Kind) -> impl Iterator<Item = &'static Case> {
 }
 
 /// What unpack answers.
+pub fn unpack_answer(case: &Case) -> Answer {
+    let mut plane = vec![0; case.coefficients.len()];
+    reference::unpack(&case.parameters, &case.bytes, &mut plane)
+}
+
+/// The status that unpack answers.
 pub fn unpack_status(case: &Case) -> u32 {
-    check(case, reference).unwrap()[0].status
+    unpack_answer(case).status
+}
+
+/// The numbers of a body in order that unpack dequantises, each with its quantiser index: all, or up to the
+/// first whose value does not fit 32 bits, or those of level 0 where prediction refuses it.
+pub fn dequantised(case: &Case) -> Vec<(u32, i64)> {
+    let p = &case.parameters;
+    let answer = unpack_answer(case);
+    let mut list = Vec::new();
+    for read in bands_read(p, &case.bytes) {
+        let index = read.index as u32;
+        for code in read.codes {
+            list.push((index, code.number));
+            if !fits_32_bits(dequantise(code.number, index, p.intra)) {
+                return list;
+            }
+        }
+        if read.band.level == 0 && answer == Answer::refused(COEFFICIENT_RANGE, 0) {
+            break;
+        }
+    }
+    list
 }

@@ -11,7 +11,7 @@ fn shown(case: &Case) -> BTreeSet<u64> {
         .into_iter()
         .filter(|(index, codes)| {
             let mut numbers = codes.iter().map(|code| code.number);
-            numbers.any(|number| shows_factor(number, *index as u32))
+            numbers.any(|number| shows_factor(number, *index as u32, case.parameters.intra))
         })
         .map(|(index, _)| index)
         .collect()
@@ -20,7 +20,7 @@ fn shown(case: &Case) -> BTreeSet<u64> {
 #[test]
 fn accepted_bodies_show_every_factor() {
     let mut counts = [0; 116];
-    for kind in [Kind::Valid, Kind::Runs, Kind::JustFits] {
+    for kind in [Kind::Valid, Kind::Runs, Kind::JustFits, Kind::Offsets] {
         for case in cases(kind).filter(|case| unpack_status(case) == 0) {
             for index in shown(case) {
                 counts[index as usize] += 1;

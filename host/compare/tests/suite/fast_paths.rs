@@ -1,7 +1,8 @@
 //! A decoder with fast paths, in plain Rust: without a fault it is like the reference; with a fault at a
 //! border of a fast path it is found out, and by many cases.
 
-use compare::{check, reference, safe_size, Buffers, Case, Decoder, Job};
+use crate::codes::cases;
+use compare::{check, reference, safe_size, Buffers, Case, Decoder, Job, Kind};
 use reference::codes::{BitReader, PastEnd};
 use reference::params::{padded_width, subbands, Subband};
 use reference::transform::{filter_line, shift_down, Filter, Grid, Step, FILTERS};
@@ -21,6 +22,12 @@ const LONG_CODE: u8 = 3;
 const RANGE: u8 = 4;
 /// Lines of numbers half as large again as is safe are lifted in 32 bits.
 const BOUND: u8 = 5;
+/// The values of short codes have the offset of intra pictures.
+const SHORT_INTRA: u8 = 6;
+/// The values of codes that are not short have it.
+const LONG_INTRA: u8 = 7;
+/// The values of short codes are not tested where that of 13 fits.
+const FITS_13: u8 = 8;
 
 /// The bits of a subband's data.
 pub struct Bits<'a> {
@@ -76,8 +83,19 @@ impl Bits<'_> {
     }
 }
 
-/// Reads a row of values: runs of zeros and short codes from windows, all else bit by bit.
-fn read_row(bits: &mut Bits, row: &mut [i32], index: u32, fault: u8) -> Result<(), u32> {
+/// Reads a row of values: runs of zeros and short codes from windows, all else bit by bit. The value of a
+/// number is told by a function of it and of whether its code is short.
+fn read_row(
+    bits: &mut Bits,
+    row: &mut [i32],
+    value: impl Fn(i64, bool) -> i128,
+    fault: u8,
+) -> Result<(), u32> {
+    let untested = match fault {
+        RANGE => true,
+        FITS_13 => i32::try_from(value(13, true)).is_ok(),
+        _ => false,
+    };
     let mut x = 0;
     while x < row.len() {
         let run = bits.window(fault).leading_ones() as usize;
@@ -90,8 +108,8 @@ fn read_row(bits: &mut Bits, row: &mut [i32], index: u32, fault: u8) -> Result<(
         }
         let short = bits.short_number(fault);
         let number = short.map_or_else(|| bits.number(fault), Ok)?;
-        let value = dequantise(number, index);
-        row[x] = if fault == RANGE && short.is_some() {
+        let value = value(number, short.is_some());
+        row[x] = if untested && short.is_some() {
             value as i32
         } else {
             i32::try_from(value).map_err(|_| 9u32)?
@@ -110,6 +128,26 @@ fn read_band(
     plane: &mut [i32],
     fault: u8,
 ) -> Result<(), u32> {
+    read_values(p, band, data, plane, fault, |number, is_short| {
+        let is_wrong = match fault {
+            SHORT_INTRA => is_short,
+            LONG_INTRA => !is_short,
+            _ => false,
+        };
+        dequantise(number, index, p.intra || is_wrong)
+    })
+}
+
+/// Reads the codeblocks of a subband. The value of a number is told by a function of it and of whether its
+/// code is short.
+pub fn read_values(
+    p: &Parameters,
+    band: &Subband,
+    data: &[u8],
+    plane: &mut [i32],
+    fault: u8,
+    value: impl Fn(i64, bool) -> i128,
+) -> Result<(), u32> {
     let across = p.codeblocks_across[band.level as usize] as usize;
     let down = p.codeblocks_down[band.level as usize] as usize;
     let span =
@@ -123,7 +161,7 @@ fn read_band(
         for y in span(band.height, block / across, down) {
             let start = (band.top + y) * padded_width(p) + band.left;
             let row = &mut plane[start + columns.start..start + columns.end];
-            read_row(&mut bits, row, index, fault)?;
+            read_row(&mut bits, row, &value, fault)?;
         }
     }
     Ok(())
@@ -331,15 +369,26 @@ fn fast_paths_without_a_fault_are_like_the_reference() {
 
 #[test]
 fn faults_at_the_borders_of_fast_paths_are_found_often() {
-    let faults: [(&str, Decoder); 5] = [
+    let faults: [(&str, Decoder); 7] = [
         ("row end", fast::<ROW_END>),
         ("data end", fast::<DATA_END>),
         ("long code", fast::<LONG_CODE>),
         ("range", fast::<RANGE>),
         ("bound", fast::<BOUND>),
+        ("short intra", fast::<SHORT_INTRA>),
+        ("long intra", fast::<LONG_INTRA>),
     ];
     for (name, decoder) in faults {
         let count = found(decoder, 1000);
         assert!(count >= 5, "{name}: {count} of 1000 cases");
     }
+}
+
+/// With index 109 the value of 13 fits where the picture is not intra, and that of 14 does not.
+#[test]
+fn a_number_that_is_looked_up_and_does_not_fit_is_found() {
+    let aimed = cases(Kind::LookedUp).take(1000);
+    let is_found = |case: &&Case| check(case, fast::<FITS_13>).is_err();
+    let count = aimed.filter(is_found).count();
+    assert!(count >= 5, "{count} of 1000 cases");
 }

@@ -141,16 +141,16 @@ fn read_window(
     Ok(i - from)
 }
 
-/// Reads a run.
+/// Reads a run of numbers that a function gives their values.
 fn read_run(
     bits: &mut Bits,
     layout: &Layout,
-    index: u32,
+    value: impl Fn(i64) -> i128,
     plane: &mut [i32],
     fault: u8,
 ) -> Result<(), u32> {
     let mut store = |i, number| {
-        let value = i32::try_from(dequantise(number, index)).map_err(|_| 9u32)?;
+        let value = i32::try_from(value(number)).map_err(|_| 9u32)?;
         // A fault may lead out of the plane.
         if let Some(entry) = plane.get_mut(layout.entry(i)) {
             *entry = value;
@@ -221,7 +221,8 @@ fn read_band(
                 continue;
             }
             for layout in layouts(start, stride, width, height, fault) {
-                read_run(&mut bits, &layout, index, plane, fault)?;
+                let value = |number| dequantise(number, index, p.intra);
+                read_run(&mut bits, &layout, value, plane, fault)?;
             }
             start += width;
         }

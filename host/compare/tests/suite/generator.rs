@@ -1,23 +1,10 @@
 //! What the cases reach.
 
 use compare::{check, reference, Case, Kind};
-use reference::codes::{BitReader, PastEnd};
-use reference::params::{padded_width, subbands, Subband};
+use reference::params::{padded_width, Subband};
 use reference::Parameters;
 use std::collections::BTreeSet;
-
-/// The quantiser index of each subband of a body in order, none where it is skipped.
-fn indices(p: &Parameters, bytes: &[u8]) -> Vec<Option<u64>> {
-    let mut start = 0;
-    let mut list = Vec::new();
-    for _ in subbands(p) {
-        let mut header = BitReader::new(&bytes[start..], PastEnd::Missing);
-        let length = header.number().unwrap();
-        list.push((length > 0).then(|| header.number().unwrap()));
-        start += header.align() + length as usize;
-    }
-    list
-}
+use vectors::headers::{headers, Header};
 
 /// Whether a subband has a value other than 0.
 fn has_values(p: &Parameters, plane: &[i32], band: &Subband) -> bool {
@@ -54,9 +41,9 @@ fn accepted_bodies_reach_every_subband_size_and_quantiser() {
         let p = &case.parameters;
         sizes.extend([p.width, p.height]);
         kinds.insert((p.wavelet, p.depth, p.intra));
-        let indices = indices(p, &case.bytes);
-        for (k, (band, index)) in subbands(p).iter().zip(indices).enumerate() {
-            if has_values(p, &plane, band) {
+        let headers = headers(p, &case.bytes).unwrap();
+        for (k, Header { band, index, .. }) in headers.into_iter().enumerate() {
+            if has_values(p, &plane, &band) {
                 bands.insert((p.depth, k));
                 quantisers.extend(index);
                 let level = band.level as usize;
@@ -95,5 +82,5 @@ fn every_kind_occurs_and_can_be_repeated() {
             answers.map(|answer| format!("status {} place {}", answer.status, answer.place));
         assert_eq!(statuses, expected);
     }
-    assert_eq!(kinds.len(), 17);
+    assert_eq!(kinds.len(), 19);
 }

@@ -9,6 +9,7 @@ mod fast_paths;
 mod fast_rectangles;
 mod fences;
 mod generator;
+mod offsets;
 mod program;
 mod recordings;
 mod rectangles;

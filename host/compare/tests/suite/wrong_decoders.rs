@@ -1,6 +1,9 @@
 //! Decoders with one fault each are found out.
 
+use crate::fast_paths::{fast_unpack, found, read_values, NONE};
 use compare::{check, reference, Buffers, Case, Decoder, Job};
+use reference::params::Subband;
+use reference::unpack::{quantiser_factor, quantiser_offset};
 use reference::{Answer, Parameters};
 
 /// How many cases a decoder is tried on.
@@ -92,4 +95,72 @@ fn coefficients_written_by_synthesise_are_found() {
         answer
     }
     assert!(is_found_out(writes_input));
+}
+
+/// Every picture has the offset of intra pictures.
+const ALL_INTRA: u8 = 1;
+/// The intra flag is inverted.
+const INVERTED: u8 = 2;
+/// The flag is looked at in level 0 only; the other levels have the offset of intra pictures.
+const LEVEL_0: u8 = 3;
+/// The offset of pictures that are not intra lacks the 4 that rounds it.
+const NOT_ROUNDED: u8 = 4;
+/// The same offset has no exception at index 0.
+const INDEX_0: u8 = 5;
+
+/// The offset of an index in a subband, with a fault.
+fn offset_with_fault(p: &Parameters, band: &Subband, index: u32, fault: u8) -> i64 {
+    let factor = quantiser_factor(index);
+    match fault {
+        ALL_INTRA => quantiser_offset(index, true),
+        INVERTED => quantiser_offset(index, !p.intra),
+        LEVEL_0 => quantiser_offset(index, p.intra || band.level > 0),
+        NOT_ROUNDED if !p.intra && index > 0 => 3 * factor / 8,
+        INDEX_0 if !p.intra => (3 * factor + 4) / 8,
+        _ => quantiser_offset(index, p.intra),
+    }
+}
+
+/// Reads the codeblocks of a subband with a fault in the offset.
+fn read_band(
+    p: &Parameters,
+    band: &Subband,
+    index: u32,
+    data: &[u8],
+    plane: &mut [i32],
+    fault: u8,
+) -> Result<(), u32> {
+    let offset = i128::from(offset_with_fault(p, band, index, fault));
+    let factor = i128::from(quantiser_factor(index));
+    read_values(p, band, data, plane, NONE, |number, _| {
+        let magnitude = i128::from(number.abs());
+        let value = (magnitude * factor + offset + 2) / 4;
+        i128::from(number.signum()) * value
+    })
+}
+
+/// A decoder whose unpack has a fault in the offset.
+fn other_offset<const FAULT: u8>(p: &Parameters, job: Job, buffers: Buffers) -> Answer {
+    fast_unpack(p, job, buffers, read_band, FAULT)
+}
+
+/// A decoder that takes intra pictures for others, and others for intra pictures, where it dequantises.
+pub fn inverted(p: &Parameters, job: Job, buffers: Buffers) -> Answer {
+    other_offset::<INVERTED>(p, job, buffers)
+}
+
+#[test]
+fn wrong_offsets_are_found_often() {
+    assert_eq!(found(other_offset::<NONE>, CASES), 0);
+    let faults: [(&str, Decoder); 5] = [
+        ("all intra", other_offset::<ALL_INTRA>),
+        ("inverted", inverted),
+        ("level 0", other_offset::<LEVEL_0>),
+        ("not rounded", other_offset::<NOT_ROUNDED>),
+        ("index 0", other_offset::<INDEX_0>),
+    ];
+    for (name, decoder) in faults {
+        let count = found(decoder, CASES);
+        assert!(count >= 40, "{name}: {count} of {CASES} cases");
+    }
 }

@@ -1,9 +1,9 @@
-//! The slips named at the end of document 01, "Bench readings": each test's result would change under
-//! its slip.
+//! The slips named at the end of document 01, "Bench readings", and those that document 02, "Difference
+//! pictures have another offset", invites: each test's result would change under its slip.
 
 use crate::common::*;
 use reference::transform::{filter_line, shift_down, FILTERS};
-use reference::unpack::predict_from_three;
+use reference::unpack::{dequantise, predict_from_three, quantiser_factor, quantiser_offset};
 
 #[test]
 fn rows_before_columns() {
@@ -131,4 +131,54 @@ fn edge_rules_in_a_picture() {
     let samples = run_synthesise(&p, &coefficients).2;
     // The row is [-4, 3, -6, 10] shifted down, twice.
     assert_eq!(samples, [-2, 2, -3, 5, -2, 2, -3, 5]);
+}
+
+/// The values of 1, 2, 3 and 4 at an index with an offset.
+fn values_with_offset(index: u32, offset: i64) -> [i64; 4] {
+    [1, 2, 3, 4].map(|m| (m * quantiser_factor(index) + offset + 2) / 4)
+}
+
+#[test]
+fn the_flag_inverted() {
+    let body = subband_bytes(12, &bits("0010"));
+    assert_eq!(run_unpack(&plain(1, 1, 0, 0, true), &body).1, [12]);
+    assert_eq!(run_unpack(&plain(1, 1, 0, 0, false), &body).1, [11]);
+    // In a picture with a prediction too: 1 and 1 are 12 and 24 in intra, 11 and 11 otherwise.
+    let body = subband_bytes(12, &bits("0010 0010"));
+    assert_eq!(run_unpack(&plain(2, 1, 0, 0, true), &body).1, [12, 24]);
+    assert_eq!(run_unpack(&plain(2, 1, 0, 0, false), &body).1, [11, 11]);
+}
+
+#[test]
+fn the_flag_looked_at_in_level_0_only() {
+    // Every subband of depth 1 has a 1 at index 12. The intra offset in all levels above 0 would give 12
+    // there in a picture that isn't intra, the other offset 11 in one that is.
+    let body = subband_bytes(12, &bits("0010")).repeat(4);
+    assert_eq!(run_unpack(&plain(2, 2, 1, 0, true), &body).1, [12; 4]);
+    assert_eq!(run_unpack(&plain(2, 2, 1, 0, false), &body).1, [11; 4]);
+    // Depth 2, the level above that: only its last subband has values.
+    let zeros = [0x80; 6];
+    let body = [&zeros[..], &subband_bytes(12, &bits("0010 0011 1 1"))].concat();
+    let last = |intra| run_unpack(&plain(4, 4, 2, 0, intra), &body).1[10..12].to_vec();
+    assert_eq!(last(true), [12, -12]);
+    assert_eq!(last(false), [11, -11]);
+}
+
+#[test]
+fn three_eighths_of_the_factor_without_the_4() {
+    // Index 7: floor((39 + 4) / 8) = 5, and floor(39 / 8) = 4 would make 1 a 4.
+    assert_eq!(quantiser_factor(7), 13);
+    assert_eq!(quantiser_offset(7, false), 5);
+    assert_eq!(values_with_offset(7, 4)[0], 4);
+    assert_eq!(dequantise(1, 7, false), 5);
+    let body = subband_bytes(7, &bits("0011"));
+    assert_eq!(run_unpack(&plain(1, 1, 0, 0, false), &body).1, [-5]);
+    // At index 12 both are 12, so the stated value doesn't show the slip; these indices do.
+    let differ = |index: &u32| {
+        let slip = values_with_offset(*index, 3 * quantiser_factor(*index) / 8);
+        slip != values_with_offset(*index, quantiser_offset(*index, false))
+    };
+    let shown: Vec<u32> = (1..=115).filter(differ).collect();
+    assert_eq!(shown[..8], [1, 3, 5, 7, 10, 14, 22, 23]);
+    assert_eq!(shown.len(), 32);
 }

@@ -268,7 +268,7 @@ fn a_body_cut_at_the_wrong_entry() {
     for (cut, first, second) in [
         (0, "refused 6 place 0", "refused 12 place 2"),
         // The three bytes happen to be a body: length 1, index 16, value 2.
-        (1, "refused 6 place 0", "1 x 1\n40"),
+        (1, "refused 6 place 0", "1 x 1\n38"),
         (2, "1 x 1\n1", "1 x 1\n2"),
         (3, "refused 12 place 2", "refused 6 place 0"),
         (4, "refused 12 place 2", "refused 6 place 0"),

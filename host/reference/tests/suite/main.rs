@@ -1,8 +1,9 @@
-//! Tests of the reference decoder against document 01 and document 02's request One.
+//! Tests of the reference decoder against document 01 and document 02's requests One and Three.
 
 mod command;
 mod common;
 mod common_mistakes;
+mod difference_pictures;
 mod filters;
 mod left_over_bytes;
 mod recordings;

@@ -320,7 +320,7 @@ fn unpacked(p: &Parameters, quantised: &[i64], indices: &[u32]) -> Vec<i32> {
     for (band, &index) in subbands(p).iter().zip(indices) {
         for y in band.top..band.top + band.height {
             for x in band.left..band.left + band.width {
-                plane[y * row + x] = dequantise(quantised[y * row + x], index) as i64;
+                plane[y * row + x] = dequantise(quantised[y * row + x], index, p.intra) as i64;
             }
         }
     }
@@ -362,7 +362,7 @@ fn quantised_bodies_unpack_to_dequantised_values() {
         assert_eq!(plane, unpacked(&p, &quantised, &indices), "{p:?}");
         // No value is further from its coefficient than a whole step.
         for (band, &index) in subbands(&p).iter().zip(&indices) {
-            let step = dequantise(1, index) as i64;
+            let step = dequantise(1, index, p.intra) as i64;
             for y in band.top..band.top + band.height {
                 for x in band.left..band.left + band.width {
                     let entry = y * padded_width(&p) + x;
@@ -377,13 +377,48 @@ fn quantised_bodies_unpack_to_dequantised_values() {
 #[test]
 fn quantising_dequantised_values_changes_nothing() {
     for index in 0..=115 {
-        for m in [0, 1, 2, 3, 10, 1000] {
-            let value = dequantise(m, index) as i64;
-            for sign in [1, -1] {
-                assert_eq!(quantise(sign * value, index, Rounding::Floor), sign * m);
-                assert_eq!(quantise(sign * value, index, Rounding::Nearest), sign * m);
+        for (m, intra) in [0, 1, 2, 3, 10, 1000]
+            .map(|m| [(m, false), (m, true)])
+            .concat()
+        {
+            let value = dequantise(m, index, intra) as i64;
+            for number in [m, -m] {
+                for rounding in [Rounding::Floor, Rounding::Nearest] {
+                    let value = number.signum() * value;
+                    assert_eq!(quantise(value, index, intra, rounding), number);
+                }
             }
         }
+    }
+}
+
+#[test]
+fn the_nearest_value_is_chosen_by_the_rule_of_the_picture() {
+    for (index, intra) in (0..=20).flat_map(|index| [(index, false), (index, true)]) {
+        let values: Vec<i64> = (0..=300)
+            .map(|m| dequantise(m, index, intra) as i64)
+            .collect();
+        for value in 0..=250 {
+            let nearest = (0..=300)
+                .min_by_key(|&m| (values[m] - value).abs())
+                .expect("never empty") as i64;
+            for sign in [1, -1] {
+                let number = quantise(sign * value, index, intra, Rounding::Nearest);
+                assert_eq!(
+                    number,
+                    sign * nearest,
+                    "{value} index {index} intra {intra}"
+                );
+            }
+        }
+    }
+    // At index 16 the numbers 0, 1 and 2 are 0, 24 and 40 in intra, and 0, 22 and 38 otherwise.
+    assert_eq!(quantise(12, 16, true, Rounding::Nearest), 0);
+    assert_eq!(quantise(12, 16, false, Rounding::Nearest), 1);
+    // A number rounded down doesn't depend on the rule.
+    for value in -300..=300 {
+        let [intra, other] = [true, false].map(|intra| quantise(value, 16, intra, Rounding::Floor));
+        assert_eq!(intra, other);
     }
 }
 

@@ -30,7 +30,10 @@ fn twelve_rows() {
     assert_eq!(reader.signed_number(), Ok(-1));
     let factors: Vec<i64> = (0..=8).map(quantiser_factor).collect();
     assert_eq!(factors, [4, 5, 6, 7, 8, 10, 11, 13, 16]);
-    assert_eq!(dequantise(-3, 5), -9);
+    // The row doesn't say of which picture: it holds for both.
+    for intra in [false, true] {
+        assert_eq!(dequantise(-3, 5, intra), -9);
+    }
     assert_eq!(filtered(1, [10, 4]), [8, 12]);
     assert_eq!(filtered(3, [7, -2]), [8, 6]);
     assert_eq!(shift_down(-5), -2);
@@ -50,49 +53,38 @@ fn factors_are_the_nearest_to_powers_of_two() {
 
 #[test]
 fn offsets_and_small_values() {
-    let offsets: Vec<i64> = (0..=8).map(quantiser_offset).collect();
+    let offsets: Vec<i64> = (0..=8).map(|index| quantiser_offset(index, true)).collect();
     assert_eq!(offsets, [1, 2, 3, 4, 4, 5, 6, 7, 8]);
-    // Index 0 changes no number.
-    for number in [-4_294_967_294, -5, -1, 0, 1, 2, 1000, 4_294_967_294] {
-        assert_eq!(dequantise(number, 0), i128::from(number));
+    for intra in [false, true] {
+        // Index 0 changes no number.
+        for number in [-4_294_967_294, -5, -1, 0, 1, 2, 1000, 4_294_967_294] {
+            assert_eq!(dequantise(number, 0, intra), i128::from(number));
+        }
+        // Index 1: floor((5m + 4) / 4).
+        let values: Vec<i128> = (1..=4).map(|m| dequantise(m, 1, intra)).collect();
+        assert_eq!(values, [2, 3, 4, 6]);
+        // The sign is put on after rounding down.
+        assert_eq!(dequantise(-1, 1, intra), -2);
+        assert_eq!(dequantise(0, 115, intra), 0);
     }
-    // Index 1: floor((5m + 4) / 4).
-    assert_eq!(
-        (1..=4).map(|m| dequantise(m, 1)).collect::<Vec<_>>(),
-        [2, 3, 4, 6]
-    );
-    // The sign is put on after rounding down.
-    assert_eq!(dequantise(-1, 1), -2);
-    assert_eq!(dequantise(0, 115), 0);
 }
 
 #[test]
 fn quantiser_index_115_and_116() {
-    let p = plain(1, 1, 0, 0, false);
     assert_eq!(quantiser_factor(115), 1_805_811_301);
-    let four = bits("00011 0");
-    assert_eq!(
-        run_unpack(&p, &subband_bytes(115, &four)),
-        (answer(0, 3), vec![2_031_537_714])
-    );
-    let minus_one = bits("001 1");
-    assert_eq!(
-        run_unpack(&p, &subband_bytes(115, &minus_one)).1,
-        [-677_179_238]
-    );
-    let five = bits("01001 0");
-    assert_eq!(
-        run_unpack(&p, &subband_bytes(115, &five)),
-        (answer(9, 0), vec![0])
-    );
-    assert_eq!(
-        run_unpack(&p, &subband_bytes(116, &four)),
-        (answer(8, 0), vec![0])
-    );
-    assert_eq!(
-        run_unpack(&p, &subband_bytes(4_294_967_294, &four)),
-        (answer(8, 0), vec![0])
-    );
+    let (four, minus_one, five) = (bits("00011 0"), bits("001 1"), bits("01001 0"));
+    for (intra, value_of_four, value_of_minus_one) in [
+        (true, 2_031_537_714, -677_179_238),
+        (false, 1_975_106_111, -620_747_635),
+    ] {
+        let p = plain(1, 1, 0, 0, intra);
+        let unpacked = |index, data| run_unpack(&p, &subband_bytes(index, data));
+        assert_eq!(unpacked(115, &four), (answer(0, 3), vec![value_of_four]));
+        assert_eq!(unpacked(115, &minus_one).1, [value_of_minus_one]);
+        assert_eq!(unpacked(115, &five), (answer(9, 0), vec![0]));
+        assert_eq!(unpacked(116, &four), (answer(8, 0), vec![0]));
+        assert_eq!(unpacked(4_294_967_294, &four), (answer(8, 0), vec![0]));
+    }
 }
 
 #[test]

@@ -1,9 +1,13 @@
 //! Helpers shared by the tests.
 
-use reference::Answer;
+use reference::codes::{BitReader, PastEnd};
+use reference::params::{padded_area, padded_width, subbands, Subband, MAX_QUANTISER};
+use reference::unpack::{codeblock_start, dequantise};
+use reference::{Answer, Parameters};
 use std::collections::BTreeSet;
 use std::path::{Path, PathBuf};
 use std::process::Command;
+use vectors::headers::headers;
 use vectors::Vectors;
 
 /// A status and a place.
@@ -120,4 +124,98 @@ pub fn assert_writes_folder(command: &str, folder: &str) {
     let output = write(&stored.join("README.md").join("folder"));
     assert_eq!(output.status.code(), Some(1));
     assert!(!output.stderr.is_empty());
+}
+
+/// What the bytes of a component state.
+pub struct Stated {
+    /// The quantiser index of each subband, or none where its length is 0.
+    pub indices: Vec<Option<u32>>,
+    /// The numbers before they are dequantised, laid out as a coefficient plane.
+    pub numbers: Vec<i64>,
+}
+
+/// A number other than 0 that bytes state.
+#[derive(Clone, Copy, Debug)]
+pub struct Number {
+    pub subband: usize,
+    pub index: u32,
+    pub number: i64,
+    /// Where its value stands in the coefficient plane.
+    pub entry: usize,
+}
+
+/// What the bytes of a component state, or none where refusal 6, 7 or 8 ends the reading. The parameters must be
+/// in range.
+pub fn stated(p: &Parameters, bytes: &[u8]) -> Option<Stated> {
+    let mut stated = Stated {
+        indices: Vec::new(),
+        numbers: vec![0; padded_area(p)],
+    };
+    for header in headers(p, bytes)? {
+        if header.index > Some(MAX_QUANTISER) {
+            return None;
+        }
+        stated.indices.push(header.index.map(|index| index as u32));
+        if header.index.is_some() {
+            read_numbers(p, &header.band, &bytes[header.data], &mut stated.numbers)?;
+        }
+    }
+    Some(stated)
+}
+
+/// Puts the numbers of a subband's codeblocks into a plane, or gives none where refusal 7 ends the reading.
+fn read_numbers(p: &Parameters, band: &Subband, data: &[u8], plane: &mut [i64]) -> Option<()> {
+    let across = p.codeblocks_across[band.level as usize] as usize;
+    let down = p.codeblocks_down[band.level as usize] as usize;
+    let mut reader = BitReader::new(data, PastEnd::One);
+    let side =
+        |size, k, count| codeblock_start(size, k, count)..codeblock_start(size, k + 1, count);
+    for block in 0..across * down {
+        if across * down > 1 && reader.bit().ok()? == 1 {
+            continue;
+        }
+        for y in side(band.height, block / across, down) {
+            for x in side(band.width, block % across, across) {
+                plane[(band.top + y) * padded_width(p) + band.left + x] =
+                    reader.signed_number().ok()?;
+            }
+        }
+    }
+    Some(())
+}
+
+impl Stated {
+    /// Every number other than 0.
+    pub fn all(&self, p: &Parameters) -> Vec<Number> {
+        let mut list = Vec::new();
+        for (subband, band) in subbands(p).iter().enumerate() {
+            for place in 0..band.width * band.height {
+                let (x, y) = (place % band.width, place / band.width);
+                let entry = (band.top + y) * padded_width(p) + band.left + x;
+                if self.numbers[entry] != 0 {
+                    list.push(Number {
+                        subband,
+                        index: self.indices[subband].expect("a length other than 0"),
+                        number: self.numbers[entry],
+                        entry,
+                    });
+                }
+            }
+        }
+        list
+    }
+
+    /// Those to which prediction adds nothing, or 0 at the corner: their values stand in the plane as they are.
+    pub fn not_predicted(&self, p: &Parameters) -> Vec<Number> {
+        let mut list = self.all(p);
+        list.retain(|number| !p.intra || number.subband > 0 || number.entry == 0);
+        list
+    }
+}
+
+impl Number {
+    /// Its value in a picture that is intra or isn't.
+    pub fn value(&self, intra: bool) -> i128 {
+        dequantise(self.number, self.index, intra)
+    }
 }

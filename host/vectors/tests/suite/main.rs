@@ -3,8 +3,10 @@
 
 mod command;
 mod common;
+mod difference_recordings;
 mod factors;
 mod ffmpeg_recordings;
+mod offsets;
 mod recording_vectors;
 mod samples;
 mod synthesis_vectors;

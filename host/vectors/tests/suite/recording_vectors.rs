@@ -8,6 +8,7 @@ use reference::transform::fits_32_bits;
 use reference::unpack::codeblock_start;
 use reference::{read_recording, write_recording, Entry, Parameters};
 use std::collections::BTreeSet;
+use vectors::headers::{headers, Header};
 use vectors::runs::{run_decode, run_unpack};
 use vectors::synthesis_vectors::{filtered_level, level_end_fits, SynthesisJob};
 
@@ -26,7 +27,7 @@ fn the_command_writes_the_stored_files() {
 #[test]
 fn each_text_is_that_of_its_recording() {
     let stored = stored();
-    assert!(stored.len() >= 165, "{} recordings", stored.len());
+    assert!(stored.len() >= 171, "{} recordings", stored.len());
     for recording in &stored {
         let text = read_recording(&recording.file);
         assert!(text == recording.text, "{} differs", recording.name);
@@ -391,35 +392,31 @@ struct Contents {
 fn contents(entry: &Entry) -> Contents {
     let p = &entry.parameters;
     let mut contents = Contents::default();
-    let mut rest = &entry.body[..];
-    for band in subbands(p) {
-        let mut header = BitReader::new(rest, PastEnd::Missing);
-        let length = header.number().unwrap() as usize;
-        contents.last_length = length;
+    for Header { band, index, data } in headers(p, &entry.body).unwrap() {
+        let behind = &entry.body[data.end..];
+        let data = &entry.body[data];
+        contents.last_length = data.len();
         contents.last_unused = 0;
         contents.last_ends_early = false;
-        if length == 0 {
+        contents.bytes_left = behind.len();
+        let Some(index) = index else {
             contents.skipped_subbands += 1;
-            rest = &rest[header.align()..];
             continue;
-        }
-        contents.indices.push(header.number().unwrap());
-        let (data, behind) = rest[header.align()..].split_at(length);
-        rest = behind;
+        };
+        contents.indices.push(index);
         let within = read_codeblocks(p, &band, &mut BitReader::new(data, PastEnd::Missing));
         if within.is_err() {
             contents.past_the_length += 1;
-            contents.past_the_length_before_0 += usize::from(rest.first() == Some(&0));
+            contents.past_the_length_before_0 += usize::from(behind.first() == Some(&0));
             contents.last_ends_early = true;
         }
         let mut reader = BitReader::new(data, PastEnd::One);
         let read = read_codeblocks(p, &band, &mut reader).unwrap();
-        contents.last_unused = length - reader.align();
+        contents.last_unused = data.len() - reader.align();
         for (count, more) in contents.codeblocks.iter_mut().zip(read) {
             *count += more;
         }
     }
-    contents.bytes_left = rest.len();
     contents
 }
 
@@ -515,11 +512,15 @@ fn every_kind_of_codeblock_is_there() {
 
 #[test]
 fn every_quantiser_index_is_accepted() {
-    let indices: BTreeSet<u64> = accepted()
-        .iter()
-        .flat_map(|case| contents(&case.entry).indices)
-        .collect();
-    assert!(indices.into_iter().eq(0..=115));
+    let cases = accepted();
+    for intra in [false, true] {
+        let indices: BTreeSet<u64> = cases
+            .iter()
+            .filter(|case| case.entry.parameters.intra == intra)
+            .flat_map(|case| contents(&case.entry).indices)
+            .collect();
+        assert!(indices.into_iter().eq(0..=115), "intra {intra}");
+    }
 }
 
 #[test]

@@ -3,9 +3,10 @@
 use crate::common::*;
 use reference::recording::parse;
 use reference::{read_recording, write_recording};
-use vectors::runs::run_decode;
+use vectors::runs::{run_decode, run_synthesise};
 use vectors::samples::{
-    pad_edge_parameters, pad_edge_picture, three_pictures, CUT_LATE, PADDED_TO,
+    difference_of_frames, frame_parameters, pad_edge_parameters, pad_edge_picture, three_pictures,
+    two_frames, CUT_LATE, PADDED_TO,
 };
 
 /// The bytes that document 01 gives for the whole case.
@@ -97,4 +98,54 @@ fn a_body_padded_by_old_firmware() {
         assert_eq!(entry.body.len(), PADDED_TO);
     }
     assert_eq!(entries[0].body[8..], [0; 8]);
+}
+
+/// The largest distance between samples and what they should be.
+fn error(samples: &[i32], expected: &[i64]) -> i64 {
+    assert_eq!(samples.len(), expected.len());
+    let distances = samples.iter().zip(expected);
+    distances
+        .map(|(&sample, expected)| (i64::from(sample) - expected).abs())
+        .max()
+        .unwrap()
+}
+
+#[test]
+fn a_frame_and_a_difference() {
+    let sample = sample("frame-and-difference");
+    let entries = parse(&sample.file).unwrap();
+    let parameters: Vec<_> = entries.iter().map(|entry| &entry.parameters).collect();
+    assert_eq!(
+        parameters,
+        [&frame_parameters(true), &frame_parameters(false)]
+    );
+    let samples = |k: usize| run_decode(parameters[k], &entries[k].body).3;
+    let [first, second] = two_frames();
+    assert!(error(&samples(0), &first) <= 2);
+    assert!(error(&samples(1), &difference_of_frames()) <= 4);
+    let sum = samples(0).into_iter().zip(samples(1)).map(|(a, b)| a + b);
+    assert!(error(&Vec::from_iter(sum), &second) <= 5);
+    // The difference has nothing but the part of the edge that moved.
+    for (place, sample) in samples(1).into_iter().enumerate() {
+        let moved = (place / 16 >= 4) && place % 16 == 7;
+        assert_eq!(sample < -90, moved);
+        assert!(moved || sample.abs() <= 4);
+    }
+}
+
+#[test]
+fn the_edge_of_the_difference_would_be_too_strong_by_the_other_rule() {
+    let entry = &parse(&sample("frame-and-difference").file).unwrap()[1];
+    let p = &entry.parameters;
+    let numbers = stated(p, &entry.body).unwrap().all(p);
+    let edge = |intra: bool| -> Vec<i32> {
+        let mut plane = vec![0; 16 * 8];
+        for number in &numbers {
+            plane[number.entry] = number.value(intra).try_into().unwrap();
+        }
+        let (_, _, samples) = run_synthesise(p, &plane);
+        samples.chunks(16).skip(4).map(|row| row[7]).collect()
+    };
+    assert_eq!(edge(false), [-102, -100, -99, -99]);
+    assert_eq!(edge(true), [-104, -102, -100, -100]);
 }

@@ -1,4 +1,4 @@
--- `coefficients::quantiser::quantiser_of` meets its contract: the factor and the offset are those of the index, and have 31 bits.
+-- `coefficients::quantiser::quantiser_of` meets its contract: the factor and the offset are those of the index and the flag, and have 31 bits.
 -- Assumes nothing.
 use borrow.Author.Needs.{needs}
 use Rattle.coefficients.specs.Quantiser.{dequantise}
@@ -19,7 +19,7 @@ returns c =
       rw (c .before .quant-factor .ensures, c .quant-offset .ensures),
       record {
         factor-most = rw (c .before .quant-factor .ensures) (factor-below (start .args .index) (start .pre));
-        offset-most = rw (c .quant-offset .ensures) (offset-below (start .args .index) (start .pre));
+        offset-most = rw (c .quant-offset .ensures) (offset-below (start .args .intra) (start .args .index) (start .pre));
       },
     )
 

@@ -7,7 +7,7 @@ use native.Mathlib.Omega.{arith}
 use borrow.Author.Needs.{needs}
 use lib.ListN.{take, drop}
 use denote.Ref.{now}
-use Rattle.coefficients.specs.Quantiser.{dequantise}
+use Rattle.coefficients.specs.Scaling.{scaleOf}
 use Rattle.coefficients.specs.Reading.{Run, goesOn}
 use Rattle.coefficients.specs.Values.{after}
 use Rattle.codeblocks.specs.Codeblocks.{codeblocks}
@@ -30,23 +30,20 @@ part-data-start c = search needs
 part-data-end : tie.Need-part-data-end
 part-data-end c = search needs
 
-mul-t18 : tie.Need-mul-t18
-mul-t18 c = search needs
-
-quantiser-of-requires : tie.Need-quantiser-of-requires
-quantiser-of-requires c κs = search needs
+mul-t17 : tie.Need-mul-t17
+mul-t17 c = search needs
 
 small-values-requires : tie.Need-small-values-requires
-small-values-requires c κs = c .quantiser-of .ensures .1
+small-values-requires c κs = search needs
 
 read-codeblocks-requires : tie.Need-read-codeblocks-requires
 read-codeblocks-requires c κs =
-    let start = c .before .before .before .before .before .before in (
+    let start = c .before .before .before .before .before in (
       start .pre .0,
       omega arith,
       clear-blocks (start .args .blocks) (now (start .args .plane)) (start .pre .0) (start .pre .1 .each),
       record { before-end = omega arith; small = omega (arith, start .pre .3, start .pre .4) },
-      record { bounded = c .before .before .before .quantiser-of .ensures .1; knows = start .pre .6; small-values = c .before .before .small-values .ensures },
+      record { bounded = start .pre .2; knows = start .pre .6; small-values = c .before .before .small-values .ensures },
     )
 
 enum-told : tie.Need-enum-told
@@ -60,17 +57,16 @@ same-length c = search needs
 
 -- the run that the callee left, as the definition has it
 left : (c : tie.After-read-codeblocks) →
-    let start = c .before .before .before .before .before .before .before in
+    let start = c .before .before .before .before .before .before in
     after (c .read-codeblocks .result .progress) (c .read-codeblocks .last .0) ≡
-    codeblocks (take (start .args .size) (drop (start .args .bit / 8) (now (start .args .bytes)))) (8 * start .args .size) (start .args .bit) (dequantise (start .args .index)) (start .args .blocks) (goesOn 0 (now (start .args .plane)))
+    codeblocks (take (start .args .size) (drop (start .args .bit / 8) (now (start .args .bytes)))) (8 * start .args .size) (start .args .bit) (scaleOf (start .args .q)) (start .args .blocks) (goesOn 0 (now (start .args .plane)))
 left c =
-    let start = c .before .before .before .before .before .before .before in
-    let q = c .before .before .before .before .quantiser-of in
+    let start = c .before .before .before .before .before .before in
     let size = start .args .size in
     let at = start .args .bit / 8 in
-    let read : (ℕ → ℕ) → ℕ → Run = λ scale n. codeblocks (take n (drop at (now (start .args .bytes)))) (8 * size) (start .args .bit) scale (start .args .blocks) (goesOn 0 (now (start .args .plane))) in
+    let read : ℕ → Run = λ n. codeblocks (take n (drop at (now (start .args .bytes)))) (8 * size) (start .args .bit) (scaleOf (start .args .q)) (start .args .blocks) (goesOn 0 (now (start .args .plane))) in
     let whole : at + size - at ≡ size = omega arith in
-    blocks-whole _ _ _ _ _ _ _ refl (c .read-codeblocks .ensures) ∙ ap (λ (scale : ℕ → ℕ). read scale (at + size - at)) (q .ensures .0) ∙ ap (read (dequantise (start .args .index))) whole
+    blocks-whole _ _ _ _ _ _ _ refl (c .read-codeblocks .ensures) ∙ ap read whole
 
 returns : tie.Need-returns
 unfolding subbandData
@@ -78,11 +74,11 @@ returns c =
     let told = c .enum-told2 .given .1 in
     rw told (data-stop _ _ _ _ _ (rw told at (left (c .before .before .before))))
 
-mul-t18-2 : tie.Need-mul-t18-2
-mul-t18-2 c = search needs
+mul-t17-2 : tie.Need-mul-t17-2
+mul-t17-2 c = search needs
 
-add-t24 : tie.Need-add-t24
-add-t24 c = search needs
+add-t23 : tie.Need-add-t23
+add-t23 c = search needs
 
 same-length-2 : tie.Need-same-length-2
 same-length-2 c = search needs
@@ -99,15 +95,14 @@ read-data-spec =
     sub-data
     part-data-start
     part-data-end
-    mul-t18
-    quantiser-of-requires
+    mul-t17
     small-values-requires
     read-codeblocks-requires
     enum-told
     enum-told-2
     same-length
     returns
-    mul-t18-2
-    add-t24
+    mul-t17-2
+    add-t23
     same-length-2
     returns-2)
