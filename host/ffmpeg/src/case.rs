@@ -1,15 +1,16 @@
 //! Streams of pictures at random, named by a seed.
 
-use crate::eligibility::Setting;
+use crate::setting::Setting;
 use crate::stream::{BitDepth, Stream, COMPONENTS};
 use reference::encode::{encode_body, EncodeOptions, SubbandOptions};
 use reference::params::{padded_area, padded_width, sample_area, subbands};
+use reference::unpack::dequantise;
 use reference::Parameters;
 use vectors::pictures::{encode_coefficients, picture_coefficients};
 use vectors::pieces::{plain, random_options};
 use vectors::random::Random;
 
-/// How many pictures a stream has.
+/// How many pictures a stream has, without its reference picture.
 pub const PICTURES: usize = 8;
 
 /// How many components a stream has.
@@ -29,26 +30,32 @@ pub struct Case {
 }
 
 impl Case {
-    /// The case of a seed. One in sixteen is about the quantiser's factors.
+    /// The case of a seed. One in eight is about the quantiser's factors and offsets.
     pub fn from_seed(seed: u64) -> Case {
         let mut random = Random::new(seed);
-        if random.range(0, 15) == 0 {
+        if random.range(0, 7) == 0 {
             factors_case(&mut random, seed)
         } else {
             mixed_case(&mut random, seed)
         }
     }
 
-    /// The Dirac stream.
-    pub fn dirac_stream(&self) -> Vec<u8> {
+    /// The data units of the Dirac stream, whose first picture is the reference picture.
+    pub fn dirac_stream(&self) -> Vec<Vec<u8>> {
         let p = &self.pictures[0].parameters;
         let mut stream = Stream::new(p.width, p.height, self.setting.bit_depth);
-        for (number, picture) in self.pictures.iter().enumerate() {
+        stream.add_reference();
+        for (number, picture) in (1..).zip(&self.pictures) {
             let bodies = picture.bodies.each_ref().map(Vec::as_slice);
-            stream.add_picture(number as u32, &picture.parameters, bodies);
+            stream.add_picture(number, &picture.parameters, bodies);
         }
         stream.end()
     }
+}
+
+/// Whether a picture is intra: two of three are.
+fn random_intra(random: &mut Random) -> bool {
+    random.range(0, 2) > 0
 }
 
 /// Pictures of all kinds.
@@ -63,7 +70,7 @@ fn mixed_case(random: &mut Random, seed: u64) -> Case {
     let mut pictures = Vec::new();
     while pictures.len() < PICTURES {
         let p = random_parameters(random, width, height, setting);
-        let bodies = [0; COMPONENTS].map(|_| random_body(random, &p, setting.bit_depth));
+        let bodies = [0; COMPONENTS].map(|_| random_body(random, &p, setting.shown_bits(&p)));
         pictures.push(Picture {
             parameters: p,
             bodies,
@@ -87,7 +94,7 @@ fn random_parameters(random: &mut Random, width: u32, height: u32, setting: Sett
     let wavelet = random.range(0, last_wavelet) as u32;
     let most = width.min(height).ilog2().min(4);
     let depth = random.range(1, most.into()) as u32;
-    let mut p = plain(width, height, depth, wavelet, true);
+    let mut p = plain(width, height, depth, wavelet, random_intra(random));
     while setting.simd && padded_width(&p) >> (p.depth - 1) < 8 {
         p.depth -= 1;
     }
@@ -104,7 +111,7 @@ fn random_parameters(random: &mut Random, width: u32, height: u32, setting: Sett
     p
 }
 
-/// A body of random numbers or of a picture.
+/// A body of random numbers, or of a picture whose samples have so many bits.
 fn random_body(random: &mut Random, p: &Parameters, bit_depth: BitDepth) -> Vec<u8> {
     let largest_index = random.pick(&[0, 4, 10, 20, 32]);
     let options = EncodeOptions {
@@ -162,44 +169,56 @@ fn slope_and_edge(random: &mut Random, p: &Parameters, magnitude: i64) -> Vec<i6
     samples
 }
 
-/// Pictures of two rows in which a coefficient of one index stands against one of the index that is 4
-/// higher, so that all but the rounding cancels: this shows factors far above the range of samples.
-///
-/// Wavelet 3 at depth 1 makes the even columns LL - floor((HL + 1) / 2). Prediction carries the first
-/// value of LL along its only row.
+/// The index of level 0 in pictures made for the factors; its values are 8 apart.
+const FACTORS_LEVEL_0_INDEX: u32 = 12;
+
+/// Pictures of two rows that show factors and offsets far above the range of samples.
 fn factors_case(random: &mut Random, seed: u64) -> Case {
     let width = 2 * random.range(1, 20) as u32;
-    let p = plain(width, 2, 1, 3, true);
-    let mut body = || {
-        let index = random.range(0, 111) as u64;
-        let sign = if random.flag() { 1 } else { -1 };
-        let mut plane = vec![0; padded_area(&p)];
-        plane[0] = sign;
-        plane[width as usize / 2..width as usize].fill(sign);
-        let options = [index, index + 4, 0, 0].map(|quantiser| SubbandOptions {
-            quantiser,
-            ..SubbandOptions::default()
-        });
-        encode_body(
-            &p,
-            &plane,
-            &EncodeOptions {
-                subbands: options.to_vec(),
-            },
-        )
+    let mut picture = || {
+        let p = plain(width, 2, 1, 3, random_intra(random));
+        let bodies = [0; COMPONENTS].map(|_| factors_body(random, &p));
+        Picture {
+            parameters: p,
+            bodies,
+        }
     };
-    let pictures = (0..PICTURES)
-        .map(|_| Picture {
-            parameters: p.clone(),
-            bodies: [0; COMPONENTS].map(|_| body()),
-        })
-        .collect();
     Case {
         seed,
+        pictures: (0..PICTURES).map(|_| picture()).collect(),
         setting: Setting {
             bit_depth: BitDepth::Twelve,
             simd: false,
         },
-        pictures,
     }
+}
+
+/// A body in which HL and LH have 1 or -1 of any index everywhere, and LL stands against both, so that all
+/// but a few units cancels.
+///
+/// Wavelet 3 at depth 1 makes LL - floor((LH + 1) / 2) - floor((HL + 1) / 2) of them in the even columns of
+/// the even row. If intra, prediction carries the first value of LL along its only row.
+fn factors_body(random: &mut Random, p: &Parameters) -> Vec<u8> {
+    let half = p.width as usize / 2;
+    let mut plane = vec![0; padded_area(p)];
+    let mut indices = [FACTORS_LEVEL_0_INDEX, 0, 0, 0];
+    let mut level_0 = 0;
+    for (subband, start) in [(1, half), (2, 2 * half)] {
+        let number = random.pick(&[1, -1]);
+        let index = random.range(0, 115) as u32;
+        let value = dequantise(number, index, p.intra) as i64;
+        plane[start..start + half].fill(number);
+        indices[subband] = index;
+        level_0 += (value + 1).div_euclid(2);
+    }
+    let stated = if p.intra { 1 } else { half };
+    plane[..stated].fill(level_0 / 8);
+    let subbands = indices.map(|index| SubbandOptions {
+        quantiser: index.into(),
+        ..SubbandOptions::default()
+    });
+    let options = EncodeOptions {
+        subbands: subbands.to_vec(),
+    };
+    encode_body(p, &plane, &options)
 }

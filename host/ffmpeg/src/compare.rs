@@ -1,11 +1,14 @@
 //! The comparison of cases, and what it counts.
 
 use crate::case::{Case, Picture};
-use crate::eligibility::{expected_samples, is_clipped, Aside, Expected, Setting};
+use crate::eligibility::{expected_samples, Aside, Expected};
+use crate::offsets::told_apart;
+use crate::setting::{Setting, Shown};
 use crate::stream::{BitDepth, COMPONENTS};
 use crate::{peer, proved};
 use reference::params::sample_area;
 use reference::Parameters;
+use std::collections::BTreeSet;
 use std::fmt;
 
 /// A difference, with all that names it.
@@ -32,10 +35,14 @@ impl fmt::Display for Difference {
 /// How components fared.
 #[derive(Clone, Debug, Default, PartialEq, Eq)]
 pub struct Counts {
-    /// Compared, no sample being clipped.
+    /// Compared in all samples.
     pub whole: u64,
-    /// Compared where FFmpeg doesn't clip.
+    /// Compared where FFmpeg shows samples and doesn't clip them.
     pub in_part: u64,
+    /// Of both, those that are not intra.
+    pub not_intra: u64,
+    /// The quantiser indices at which these show that their offset is not the intra one.
+    pub told_apart: BTreeSet<u32>,
     /// Of both, those that FFmpeg decoded with its SIMD code.
     pub simd: u64,
     /// Of both, those of each bit depth.
@@ -63,13 +70,15 @@ impl Counts {
         self.aside.iter().sum()
     }
 
-    /// Counts one that was compared in this many of its samples.
-    fn add(&mut self, p: &Parameters, setting: Setting, expected: &Expected, samples: usize) {
+    /// Counts one that was compared.
+    fn add(&mut self, p: &Parameters, setting: Setting, expected: &Expected) {
+        let samples = expected.samples_shown();
         if samples == expected.samples.len() {
             self.whole += 1;
         } else {
             self.in_part += 1;
         }
+        self.not_intra += u64::from(!p.intra);
         self.simd += u64::from(setting.simd);
         self.bit_depths[setting.bit_depth as usize] += 1;
         self.wavelets[p.wavelet as usize] += 1;
@@ -95,8 +104,15 @@ impl fmt::Display for Counts {
         )?;
         writeln!(
             f,
-            "  whole: {}, where FFmpeg doesn't clip: {}",
+            "  whole: {}, where FFmpeg shows samples unclipped: {}",
             self.whole, self.in_part
+        )?;
+        writeln!(f, "  intra: {} components", compared - self.not_intra)?;
+        writeln!(
+            f,
+            "  not intra: {} components, offsets told apart at {} indices",
+            self.not_intra,
+            self.told_apart.len()
         )?;
         writeln!(
             f,
@@ -127,10 +143,11 @@ pub fn compare(case: &Case, counts: &mut Counts) -> Result<Vec<Difference>, Stri
     let samples = sample_area(&case.pictures[0].parameters);
     let Setting { bit_depth, simd } = case.setting;
     let found = peer::decode(&case.dirac_stream(), samples, bit_depth, simd)?;
-    compare_with(case, &found, counts)
+    // The first is the reference picture.
+    compare_with(case, found.get(1..).unwrap_or_default(), counts)
 }
 
-/// The same, with the pictures that FFmpeg gave.
+/// The same, with the pictures that FFmpeg gave after the reference picture.
 pub fn compare_with(
     case: &Case,
     found: &[[Vec<i32>; COMPONENTS]],
@@ -166,7 +183,8 @@ fn compare_component(
     counts: &mut Counts,
 ) -> Option<String> {
     let p = &picture.parameters;
-    let expected = proved::decode(p, &picture.bodies[component])
+    let body = &picture.bodies[component];
+    let expected = proved::decode(p, body)
         .map_err(|_| Aside::Refused)
         .and_then(|decoded| expected_samples(p, setting, decoded));
     let expected = match expected {
@@ -176,22 +194,30 @@ fn compare_component(
             return None;
         }
     };
-    let offset = setting.bit_depth.offset();
-    let pairs = expected.samples.iter().zip(found).enumerate();
-    let shown = pairs.filter(|(_, (&ours, _))| !is_clipped(ours, setting.bit_depth));
-    let mut samples = 0;
-    let mut difference = None;
-    for (index, (&ours, &found)) in shown {
-        samples += 1;
-        if ours + offset != found && difference.is_none() {
-            let (x, y) = (index % p.width as usize, index / p.width as usize);
-            let found = found - offset;
-            difference = Some(format!(
-                "column {x}, row {y}: {ours} expected, FFmpeg has {found}"
-            ));
-        }
+    let difference = difference(p, &expected, found);
+    if difference.is_none() && expected.samples_shown() == 0 {
+        counts.aside[Aside::Clipped as usize] += 1;
+        return None;
     }
-    counts.add(p, setting, &expected, samples);
+    counts.add(p, setting, &expected);
     counts.different += u64::from(difference.is_some());
+    if difference.is_none() && !p.intra {
+        let indices = told_apart(p, setting, body, &expected, &counts.told_apart);
+        counts.told_apart.extend(indices);
+    }
     difference
+}
+
+/// The first sample that FFmpeg shows otherwise than is expected.
+fn difference(p: &Parameters, expected: &Expected, found: &[i32]) -> Option<String> {
+    let mut pairs = expected.shown.iter().zip(found);
+    let differs = |(shown, found): (&Shown, &i32)| shown.number().is_some_and(|n| n != *found);
+    let entry = pairs.position(differs)?;
+    let (x, y) = (entry % p.width as usize, entry / p.width as usize);
+    let sample = expected.samples[entry];
+    let number = expected.shown[entry].number()?;
+    Some(format!(
+        "column {x}, row {y}: {sample} expected, shown as {number}; FFmpeg has {}",
+        found[entry]
+    ))
 }

@@ -4,9 +4,10 @@
 //! one of them is set aside, with the reason.
 
 use crate::proved::Decoded;
+use crate::setting::{Setting, Shown};
 use crate::stream::BitDepth;
 use reference::params::{padded_width, subband_at, Orientation, Parameters};
-use reference::transform::{Grid, Step, FILTERS};
+use reference::transform::{shift_down, Grid, Step, FILTERS};
 use reference::unpack::prediction;
 use std::slice;
 use vectors::levels::{build_picture, crop, halve};
@@ -32,7 +33,7 @@ pub enum Aside {
     Prediction,
     /// FFmpeg keeps numbers of 8-bit pictures, and its SIMD code sums, in 16 bits; other sums in 32.
     Range,
-    /// FFmpeg clips every sample.
+    /// FFmpeg clips every sample that it shows, as it should.
     Clipped,
 }
 
@@ -68,19 +69,25 @@ impl Aside {
     }
 }
 
-/// The samples that are expected of FFmpeg for a component, before the offset and clipping.
+/// What is expected of FFmpeg for a component.
 pub struct Expected {
+    /// The proved library's coefficients.
+    pub coefficients: Vec<i32>,
+    /// The samples before the offset and clipping.
     pub samples: Vec<i32>,
-    /// Whether they are the proved library's; otherwise its coefficients were synthesised with
+    /// Whether the samples are the proved library's; otherwise its coefficients were synthesised with
     /// FFmpeg's halving of wavelet 6.
     pub proved: bool,
+    /// What FFmpeg shows of them.
+    pub shown: Vec<Shown>,
 }
 
-/// How FFmpeg decodes a picture.
-#[derive(Clone, Copy, Debug)]
-pub struct Setting {
-    pub bit_depth: BitDepth,
-    pub simd: bool,
+impl Expected {
+    /// How many samples FFmpeg shows as they are.
+    pub fn samples_shown(&self) -> usize {
+        let is_whole = |shown: &&Shown| matches!(shown, Shown::Whole(_));
+        self.shown.iter().filter(is_whole).count()
+    }
 }
 
 /// What is expected of FFmpeg for a component that the proved library decoded, or why it is not eligible.
@@ -92,29 +99,15 @@ pub fn expected_samples(
     check_parameters(p, setting)?;
     check_dequantising(p, &decoded.coefficients)?;
     check_prediction(p, &decoded.coefficients)?;
+    let synthesised = synthesise(p, setting, &decoded.coefficients)?;
     let proved = p.wavelet != 6;
-    let half = if proved {
-        reference::transform::shift_down
-    } else {
-        |v: i128| v.div_euclid(2)
-    };
-    let limits = Limits::of(p, setting);
-    let picture = synthesise_within(p, &decoded.coefficients, &limits, half)?;
-    let samples = if proved {
-        decoded.samples
-    } else {
-        let fitting = |number| i32::try_from(number).expect("within the limits");
-        crop(p, &picture).into_iter().map(fitting).collect()
-    };
-    if samples.iter().all(|&v| is_clipped(v, setting.bit_depth)) {
-        return Err(Aside::Clipped);
-    }
-    Ok(Expected { samples, proved })
-}
-
-/// Whether FFmpeg clips a sample.
-pub fn is_clipped(sample: i32, bit_depth: BitDepth) -> bool {
-    !(-bit_depth.offset()..bit_depth.offset()).contains(&sample)
+    let samples = if proved { decoded.samples } else { synthesised };
+    Ok(Expected {
+        shown: setting.shown(p, &samples),
+        coefficients: decoded.coefficients,
+        samples,
+        proved,
+    })
 }
 
 /// The columns of level 1, the narrowest that a transform makes.
@@ -219,15 +212,20 @@ impl Limits {
     }
 }
 
-/// The padded picture of a coefficient plane, as document 01 has it but for the halving, if every
-/// number and every sum stays within the limits.
-fn synthesise_within(
+/// The samples of a coefficient plane, as document 01 has them but for FFmpeg's halving of wavelet 6, if
+/// every number and every sum stays within FFmpeg's limits.
+pub fn synthesise(
     p: &Parameters,
+    setting: Setting,
     coefficients: &[i32],
-    limits: &Limits,
-    half: fn(i128) -> i128,
-) -> Result<Grid, Aside> {
+) -> Result<Vec<i32>, Aside> {
     let filter = &FILTERS[p.wavelet as usize];
+    let limits = Limits::of(p, setting);
+    let half = if p.wavelet == 6 {
+        |v: i128| v.div_euclid(2)
+    } else {
+        shift_down
+    };
     let mut within = true;
     let picture = build_picture(p, coefficients, |mut picture| {
         for filter_lines in [Grid::filter_columns, Grid::filter_rows] {
@@ -240,9 +238,9 @@ fn synthesise_within(
         halve(filter, &mut picture, half);
         picture
     });
-    if within {
-        Ok(picture)
-    } else {
-        Err(Aside::Range)
+    if !within {
+        return Err(Aside::Range);
     }
+    let fitting = |number| i32::try_from(number).expect("within the limits");
+    Ok(crop(p, &picture).into_iter().map(fitting).collect())
 }

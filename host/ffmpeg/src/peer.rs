@@ -15,15 +15,15 @@ pub fn version() -> Result<String, String> {
     Ok(text.lines().next().unwrap_or_default().to_string())
 }
 
-/// The pictures that FFmpeg makes of a Dirac stream, each with the samples of its components as it
+/// The pictures that FFmpeg makes of a Dirac stream's data units, each with the samples of its components as it
 /// gives them: offset and clipped. With or without its SIMD code. An error is what it says of it.
 pub fn decode(
-    stream: &[u8],
+    stream: &[Vec<u8>],
     samples: usize,
     bit_depth: BitDepth,
     simd: bool,
 ) -> Result<Vec<[Vec<i32>; COMPONENTS]>, String> {
-    let raw = run(stream, simd)?;
+    let raw = run(&ivf_file(stream), simd)?;
     let component = samples * bit_depth.sample_bytes();
     if raw.len() % (COMPONENTS * component) != 0 {
         return Err(format!("{} bytes are no whole pictures", raw.len()));
@@ -41,14 +41,36 @@ pub fn decode(
         .collect())
 }
 
-/// What FFmpeg writes for a Dirac stream: raw pictures in its own format.
-fn run(stream: &[u8], simd: bool) -> Result<Vec<u8>, String> {
+/// An IVF file with a packet for each data unit. FFmpeg's parser of bare Dirac streams passes over pictures
+/// that have a reference and no arithmetic coding; a file of packets needs no parser.
+pub fn ivf_file(stream: &[Vec<u8>]) -> Vec<u8> {
+    let mut file = b"DKIF".to_vec();
+    // The version, and the length of this header.
+    for half in [0u16, 32] {
+        file.extend(half.to_le_bytes());
+    }
+    file.extend(b"drac");
+    // The size, which the stream has; 25 pictures in 1 second; the number of packets; nothing.
+    for word in [0, 25, 1, stream.len() as u32, 0] {
+        file.extend(word.to_le_bytes());
+    }
+    // Each has a length and a time.
+    for (number, unit) in (0u64..).zip(stream) {
+        file.extend((unit.len() as u32).to_le_bytes());
+        file.extend(number.to_le_bytes());
+        file.extend(unit);
+    }
+    file
+}
+
+/// What FFmpeg writes for an IVF file: raw pictures in its own format.
+fn run(file: &[u8], simd: bool) -> Result<Vec<u8>, String> {
     let mut command = Command::new("ffmpeg");
     command.args(["-nostdin", "-v", "error"]);
     if !simd {
         command.args(["-cpuflags", "0"]);
     }
-    command.args(["-threads", "1", "-f", "dirac", "-i", "pipe:0"]);
+    command.args(["-threads", "1", "-f", "ivf", "-i", "pipe:0"]);
     command.args(["-fps_mode", "passthrough", "-f", "rawvideo", "pipe:1"]);
     let mut child = command
         .stdin(Stdio::piped())
@@ -59,7 +81,7 @@ fn run(stream: &[u8], simd: bool) -> Result<Vec<u8>, String> {
     let mut input = child.stdin.take().expect("it is piped");
     let output = thread::scope(|scope| {
         // If FFmpeg stops reading, what it says tells why.
-        scope.spawn(move || input.write_all(stream));
+        scope.spawn(move || input.write_all(file));
         child.wait_with_output()
     })
     .map_err(|error| format!("the command ffmpeg failed: {error}"))?;

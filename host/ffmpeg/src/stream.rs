@@ -1,10 +1,12 @@
-//! Dirac streams of intra pictures in core syntax, coded with variable-length codes.
+//! Dirac streams of pictures in core syntax, coded with variable-length codes.
 //!
 //! Section numbers are those of the Dirac specification 2.2. All three components have the size of
-//! the picture (4:4:4).
+//! the picture (4:4:4). A picture that is not intra names a reference picture, as it must, but is
+//! predicted by the value 0 everywhere: like an intra picture it shows its own samples.
 
 use reference::codes::BitWriter;
 use reference::Parameters;
+use vectors::pieces::plain;
 
 /// How many components a picture has.
 pub const COMPONENTS: usize = 3;
@@ -13,6 +15,14 @@ pub const COMPONENTS: usize = 3;
 const SEQUENCE_HEADER: u8 = 0x00;
 const END_OF_SEQUENCE: u8 = 0x10;
 const INTRA_PICTURE: u8 = 0x48;
+const INTRA_REFERENCE_PICTURE: u8 = 0x4C;
+const ONE_REFERENCE_PICTURE: u8 = 0x49;
+
+/// The number of the reference picture.
+const REFERENCE_NUMBER: u32 = 0;
+
+/// The samples of a superblock across and down, with the block parameters that are used (11.2.2).
+const SUPERBLOCK_SIZE: u32 = 16;
 
 /// The bytes of a parse info header (9.6).
 const PARSE_INFO_LENGTH: usize = 13;
@@ -61,8 +71,7 @@ impl BitDepth {
 /// A stream that grows by data units (9.3).
 #[derive(Default)]
 pub struct Stream {
-    bytes: Vec<u8>,
-    last_unit_length: usize,
+    units: Vec<Vec<u8>>,
 }
 
 impl Stream {
@@ -93,61 +102,130 @@ impl Stream {
         stream
     }
 
+    /// Adds the reference picture, which is flat and comes before every picture that is not intra.
+    pub fn add_reference(&mut self) {
+        let mut data = REFERENCE_NUMBER.to_be_bytes().to_vec();
+        // No picture is retired (11.1.1).
+        data.extend(signed_number(0));
+        // Depth 1; the size is the stream's.
+        data.extend(transform_parameters(&plain(1, 1, 1, 3, true)));
+        // Each of the four subbands is skipped.
+        data.extend([0x80; 4 * COMPONENTS]);
+        self.add_unit(INTRA_REFERENCE_PICTURE, &data);
+    }
+
     /// Adds a picture (11, 12) whose components have these bodies; answers where its number stands in
     /// the stream, in four bytes from the highest on. The parameters must have the size of the stream.
+    /// Number 0 is the reference picture's, where there is one.
     pub fn add_picture(
         &mut self,
         number: u32,
         p: &Parameters,
         bodies: [&[u8]; COMPONENTS],
     ) -> usize {
-        let mut transform = BitWriter::new();
-        transform.number(p.wavelet.into());
-        transform.number(p.depth.into());
-        transform.bit(true);
-        for level in 0..=p.depth as usize {
-            transform.number(p.codeblocks_across[level].into());
-            transform.number(p.codeblocks_down[level].into());
+        let mut data = number.to_be_bytes().to_vec();
+        if !p.intra {
+            // The reference picture's number, less this one's (11.1.1).
+            let difference = i64::from(REFERENCE_NUMBER) - i64::from(number);
+            data.extend(signed_number(difference));
+            data.extend(motion_data(p.width, p.height));
         }
-        // One quantiser for each subband.
-        transform.number(0);
-        let mut unit = number.to_be_bytes().to_vec();
-        unit.extend(transform.to_bytes(false));
+        data.extend(transform_parameters(p));
         for body in bodies {
-            unit.extend(body);
+            data.extend(body);
         }
-        self.add_unit(INTRA_PICTURE, &unit) + PARSE_INFO_LENGTH
+        let before: usize = self.units.iter().map(Vec::len).sum();
+        let parse_code = if p.intra {
+            INTRA_PICTURE
+        } else {
+            ONE_REFERENCE_PICTURE
+        };
+        self.add_unit(parse_code, &data);
+        before + PARSE_INFO_LENGTH
     }
 
     /// The bytes so far.
-    pub fn bytes(&self) -> &[u8] {
-        &self.bytes
+    pub fn bytes(&self) -> Vec<u8> {
+        self.units.concat()
     }
 
-    /// The bytes with the end of the sequence.
-    pub fn end(mut self) -> Vec<u8> {
+    /// The data units with the end of the sequence.
+    pub fn end(mut self) -> Vec<Vec<u8>> {
         self.add_unit(END_OF_SEQUENCE, &[]);
-        self.bytes
+        self.units
     }
 
-    /// Adds a parse info header (9.6) and what follows it; answers where the header starts.
-    fn add_unit(&mut self, parse_code: u8, data: &[u8]) -> usize {
-        let start = self.bytes.len();
+    /// Adds a parse info header (9.6) and what follows it.
+    fn add_unit(&mut self, parse_code: u8, data: &[u8]) {
         let length = PARSE_INFO_LENGTH + data.len();
-        // The last unit has no next one.
+        // The last unit has no next one, and the first has none before it.
         let next = if parse_code == END_OF_SEQUENCE {
             0
         } else {
             length
         };
-        self.bytes.extend(b"BBCD");
-        self.bytes.push(parse_code);
-        for offset in [next, self.last_unit_length] {
+        let previous = self.units.last().map_or(0, Vec::len);
+        let mut unit = b"BBCD".to_vec();
+        unit.push(parse_code);
+        for offset in [next, previous] {
             let offset = u32::try_from(offset).expect("a data unit below 4 GiB");
-            self.bytes.extend(offset.to_be_bytes());
+            unit.extend(offset.to_be_bytes());
         }
-        self.bytes.extend(data);
-        self.last_unit_length = length;
-        start
+        unit.extend(data);
+        self.units.push(unit);
     }
+}
+
+/// A signed number, up to the byte boundary.
+fn signed_number(number: i64) -> Vec<u8> {
+    let mut writer = BitWriter::new();
+    writer.signed_number(number);
+    writer.to_bytes(false)
+}
+
+/// Where the transform of a picture begins (11.3): whether its residual is zero, which an intra picture
+/// doesn't say, and the transform parameters.
+fn transform_parameters(p: &Parameters) -> Vec<u8> {
+    let mut transform = BitWriter::new();
+    if !p.intra {
+        transform.bit(false);
+    }
+    transform.number(p.wavelet.into());
+    transform.number(p.depth.into());
+    transform.bit(true);
+    for level in 0..=p.depth as usize {
+        transform.number(p.codeblocks_across[level].into());
+        transform.number(p.codeblocks_down[level].into());
+    }
+    // One quantiser for each subband.
+    transform.number(0);
+    transform.to_bytes(false)
+}
+
+/// The prediction of a picture of a size that has one reference: 0, from its own value, everywhere.
+fn motion_data(width: u32, height: u32) -> Vec<u8> {
+    let mut prediction = BitWriter::new();
+    // Picture prediction parameters (11.2): the smallest blocks; motion vectors of whole samples; no
+    // global motion; prediction mode 0; the reference's weight is the default.
+    prediction.number(1);
+    prediction.number(0);
+    prediction.bit(false);
+    prediction.number(0);
+    prediction.bit(false);
+    let mut data = prediction.to_bytes(false);
+    // A bit for each superblock: 0, it doesn't use the reference. FFmpeg's arithmetic decoder, which reads
+    // all motion data, finds zeros here, too.
+    let superblocks = width.div_ceil(SUPERBLOCK_SIZE) * height.div_ceil(SUPERBLOCK_SIZE);
+    let no_reference = vec![0; superblocks.div_ceil(8) as usize];
+    // Block motion data (12.3), each with its length: split modes, prediction modes, motion vectors across
+    // and down, and the values of the three components. A bit past the length is 1, so that every number is
+    // 0: no superblock is split, and all values are 0.
+    let sections: [&[u8]; 7] = [&[], &no_reference, &[], &[], &[], &[], &[]];
+    for section in sections {
+        let mut length = BitWriter::new();
+        length.number(section.len() as u64);
+        data.extend(length.to_bytes(false));
+        data.extend(section);
+    }
+    data
 }

@@ -1,10 +1,11 @@
-//! Every reason to set a component aside.
+//! The reasons to set a component aside that lie in its parameters and its coefficients.
 
-use ffmpeg::eligibility::{expected_samples, is_clipped, Aside, Setting};
+use ffmpeg::eligibility::{expected_samples, Aside};
 use ffmpeg::proved::{self, Decoded};
+use ffmpeg::setting::Setting;
 use ffmpeg::stream::BitDepth;
 use reference::encode::{encode_body, EncodeOptions, SubbandOptions};
-use reference::params::{padded_area, sample_area};
+use reference::params::padded_area;
 use reference::Parameters;
 use vectors::pieces::plain;
 
@@ -136,17 +137,4 @@ fn a_prediction_that_ffmpeg_approximates() {
         aside(&inter, twelve, &level_0(11_000)),
         Some(Aside::Prediction)
     );
-}
-
-#[test]
-fn clipped_samples() {
-    let eight = BitDepth::Eight;
-    assert_eq!(
-        [-129, -128, 127, 128].map(|v| is_clipped(v, eight)),
-        [true, false, false, true]
-    );
-    let p = plain(2, 2, 1, 3, true);
-    assert_eq!(sample_area(&p), 4);
-    assert_eq!(aside(&p, in_plain_c(eight), &[127]), None);
-    assert_eq!(aside(&p, in_plain_c(eight), &[128]), Some(Aside::Clipped));
 }

@@ -3,4 +3,6 @@
 mod comparison;
 mod eligibility;
 mod generator;
+mod offsets;
+mod setting;
 mod streams;

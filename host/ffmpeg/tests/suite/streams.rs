@@ -1,5 +1,6 @@
 //! Dirac streams.
 
+use ffmpeg::peer::ivf_file;
 use ffmpeg::stream::{BitDepth, Stream};
 use reference::Parameters;
 use vectors::pieces::plain;
@@ -32,7 +33,47 @@ fn a_stream_is_its_data_units() {
     assert_eq!(stream.bytes(), expected);
 
     expected.extend(parse_info(0x10, 0, 13 + 11));
-    assert_eq!(stream.end(), expected);
+    let units = stream.end();
+    assert_eq!(units.len(), 3);
+    assert_eq!(units.concat(), expected);
+}
+
+#[test]
+fn a_picture_that_is_not_intra_names_a_flat_reference() {
+    let p = plain(130, 2, 1, 3, false);
+    let mut stream = Stream::new(130, 2, BitDepth::Eight);
+    stream.add_reference();
+    stream.add_picture(2, &p, [&[0xAA], &[0xBB], &[0xCC]]);
+    let units = stream.end();
+
+    let mut reference = parse_info(0x4C, 13 + 20, units[0].len() as u8);
+    reference.extend([0, 0, 0, 0]);
+    // 0; 3, 1; yes; 1, 1, 1, 1; 0.
+    reference.extend([0b1000_0000, 0b0000_1001, 0b1001_0010, 0b0100_1100]);
+    reference.extend([0b1000_0000; 12]);
+    assert_eq!(units[1], reference);
+
+    let mut picture = parse_info(0x49, 13 + 21, 13 + 20);
+    picture.extend([0, 0, 0, 2]);
+    // -2; 1, 0, no, 0, no.
+    picture.extend([0b0111_0000, 0b0011_0100]);
+    // Nothing; 2 bytes for 9 superblocks; five times nothing.
+    picture.extend([0b1000_0000, 0b0110_0000, 0, 0]);
+    picture.extend([0b1000_0000; 5]);
+    // No; 3, 1; yes; 1, 1, 1, 1; 0.
+    picture.extend([0b0000_0100, 0b1100_1001, 0b0010_0110]);
+    picture.extend([0xAA, 0xBB, 0xCC]);
+    assert_eq!(units[2], picture);
+}
+
+#[test]
+fn an_ivf_file_has_a_packet_for_each_data_unit() {
+    let mut expected = b"DKIF\0\0\x20\0drac\0\0\0\0".to_vec();
+    expected.extend([25, 0, 0, 0, 1, 0, 0, 0, 2, 0, 0, 0, 0, 0, 0, 0]);
+    assert_eq!(expected.len(), 32);
+    expected.extend([2, 0, 0, 0, 0, 0, 0, 0, 0, 0, 0, 0, 0xAA, 0xBB]);
+    expected.extend([1, 0, 0, 0, 1, 0, 0, 0, 0, 0, 0, 0, 0xCC]);
+    assert_eq!(ivf_file(&[vec![0xAA, 0xBB], vec![0xCC]]), expected);
 }
 
 #[test]
