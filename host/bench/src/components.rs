@@ -19,6 +19,7 @@ pub struct Plan {
     pub height: u32,
     pub depth: u32,
     pub wavelet: u32,
+    pub intra: bool,
     pub codeblocks: Codeblocks,
 }
 
@@ -49,6 +50,10 @@ pub const RATES: [Rate; 2] = [about(1.1, 14), about(3.7, 4)];
 
 /// The wavelet of the tables of sizes and rates.
 pub const ONE_WAVELET: u32 = 1;
+
+/// The rate that it is measured at without being intra, too. Its index is one at which the offset changes
+/// values.
+pub const NOT_INTRA_RATE: Rate = RATES[0];
 
 /// The other sizes that are measured at the first rate: add one for another row. The first is so small that
 /// what is done once a call and once a subband shows; its instructions are counted, too.
@@ -123,22 +128,24 @@ impl Display for Plan {
     fn fmt(&self, f: &mut Formatter) -> fmt::Result {
         let Codeblocks { flag_zeros, .. } = self.codeblocks;
         let zeros = if flag_zeros { ", zeros flagged" } else { "" };
+        let intra = if self.intra { "" } else { ", not intra" };
         write!(
             f,
-            "{} x {}, depth {}, wavelet {}, codeblocks {}{zeros}",
+            "{} x {}, depth {}, wavelet {}{intra}, codeblocks {}{zeros}",
             self.width, self.height, self.depth, self.wavelet, self.codeblocks
         )
     }
 }
 
 impl Plan {
-    /// A picture of a size with a wavelet, and one codeblock for each subband.
+    /// An intra picture of a size with a wavelet, and one codeblock for each subband.
     pub const fn new((width, height): (u32, u32), wavelet: u32) -> Plan {
         Plan {
             width,
             height,
             depth: 4,
             wavelet,
+            intra: true,
             codeblocks: Codeblocks::ONE,
         }
     }
@@ -157,14 +164,17 @@ pub struct Component {
 }
 
 impl Component {
-    /// The components of a plan, one for each rate. Codeblocks do not change the index.
+    /// The components of a plan, one for each rate. Codeblocks do not change the index. One that is not intra
+    /// has the body of the intra one: it is read in another way.
     pub fn of(plan: Plan, rates: &[Rate]) -> Vec<Component> {
         let p = plain(plan.width, plan.height, plan.depth, plan.wavelet, true);
         let samples = picture::samples(plan.width, plan.height, SEED);
         let coefficients = picture_coefficients(&p, &samples);
         let encode = |&rate: &Rate| {
             let index = nearest_index(&p, &coefficients, rate);
-            encode_with(&p, &coefficients, plan.codeblocks, rate, index)
+            let mut component = encode_with(&p, &coefficients, plan.codeblocks, rate, index);
+            component.parameters.intra = plan.intra;
+            component
         };
         rates.iter().map(encode).collect()
     }
@@ -184,13 +194,13 @@ impl Component {
         8.0 * self.body.len() as f64 / self.samples() as f64
     }
 
-    /// A sequence header and a picture of 8 bits that has this component three times, and where the
-    /// picture's number stands.
+    /// A sequence header and a picture of 8 bits that has this component, an intra one, three times, and
+    /// where the picture's number stands.
     pub fn packet(&self) -> (Vec<u8>, usize) {
         let p = &self.parameters;
         let mut stream = Stream::new(p.width, p.height, BitDepth::Eight);
         let number_offset = stream.add_picture(0, p, [&self.body; COMPONENTS]);
-        (stream.bytes().to_vec(), number_offset)
+        (stream.bytes(), number_offset)
     }
 }
 

@@ -162,8 +162,12 @@ fn status<T>(result: Result<T, kafsillun::Error>) -> u32 {
     result.map_or_else(|error| error.number(), |_| 0)
 }
 
-/// libavcodec with SIMD code and in plain C, if it is installed.
+/// libavcodec with SIMD code and in plain C, if it is installed. It takes no part where a component is not
+/// intra: it would add the prediction from a reference picture, too, which no one else does.
 fn open_libavcodec(component: &Component) -> Vec<Libavcodec> {
+    if !component.parameters.intra {
+        return Vec::new();
+    }
     let (packet, number_offset) = component.packet();
     [true, false]
         .into_iter()

@@ -69,7 +69,8 @@ fn count_runs(
 ) -> Result<u64, String> {
     let p = &component.parameters;
     let Codeblocks { across, down, .. } = component.codeblocks;
-    let numbers = [p.width, p.height, p.depth, p.wavelet, across, down];
+    let intra = u32::from(p.intra);
+    let numbers = [p.width, p.height, p.depth, p.wavelet, intra, across, down];
     let output = Command::new("valgrind")
         .args(VALGRIND)
         .arg(program)

@@ -19,7 +19,8 @@ checked to give the same samples first. They run in turn on one thread; the proc
 time of the best run counts. With --quick there are few runs, and the figures are rough.
 
 With --instructions valgrind counts the instructions of each job instead, on components
-of 480 x 270 samples, three of them with one to many codeblocks, and on a small one.
+of 480 x 270 samples, one of them not intra and three with one to many codeblocks, and
+on a small one.
 
 docs/BENCHMARK.md says how to read the tables.
 

@@ -13,10 +13,11 @@ pub const HEAD: [&str; 5] = ["size", "depth", "wavelet", "index", "bits a sample
 /// The cells that name a component.
 pub fn head_cells(component: &Component) -> Vec<String> {
     let p = &component.parameters;
+    let intra = if p.intra { "" } else { ", not intra" };
     vec![
         format!("{} x {}", p.width, p.height),
         p.depth.to_string(),
-        p.wavelet.to_string(),
+        format!("{}{intra}", p.wavelet),
         component.index.to_string(),
         format!("{:.2}", component.bits_a_sample()),
     ]
@@ -27,6 +28,7 @@ pub fn head_cells(component: &Component) -> Vec<String> {
 pub struct Row {
     head: Vec<String>,
     wavelet: u32,
+    intra: bool,
     speeds: Speeds,
 }
 
@@ -36,6 +38,7 @@ impl Row {
         Row {
             head: head_cells(component),
             wavelet: component.parameters.wavelet,
+            intra: component.parameters.intra,
             speeds,
         }
     }
@@ -163,11 +166,13 @@ const EXACT: [&str; 7] = [
 /// The columns of the table of refusals.
 const REFUSALS: [&str; 4] = ["job", "status", "where", "microseconds a call"];
 
-/// libavcodec's speeds with SIMD code and in plain C, each as a cell shows it, or that it is missing.
+/// libavcodec's speeds with SIMD code and in plain C, each as a cell shows it, or that it is missing or
+/// takes no part.
 fn libavcodec_cells(row: &Row, cell: fn(f64) -> String) -> [String; 2] {
     match row.speeds.libavcodec {
         Some(speeds) if libavcodec_agrees(row.wavelet) => speeds.map(cell),
         Some(speeds) => speeds.map(|speed| cell(speed) + " *"),
+        None if !row.intra => [(); 2].map(|_| "-".to_string()),
         None => [(); 2].map(|_| "not installed".to_string()),
     }
 }

@@ -3,7 +3,8 @@
 use crate::codeblocks::{self, CodeblockTimes};
 use crate::components::{
     Codeblocks, Component, Plan, Rate, COUNTED_CODEBLOCKS, COUNTED_SIZE, FULL_SIZE,
-    MANY_CODEBLOCKS, MANY_CODEBLOCKS_RATE, ONE_WAVELET, OTHER_RATES, OTHER_SIZES, RATES, WAVELETS,
+    MANY_CODEBLOCKS, MANY_CODEBLOCKS_RATE, NOT_INTRA_RATE, ONE_WAVELET, OTHER_RATES, OTHER_SIZES,
+    RATES, WAVELETS,
 };
 use crate::decoders::{check, measure, Effort, Speeds};
 use crate::exact::{ExactTimes, LargeAndSmall};
@@ -27,6 +28,26 @@ fn checked(
     Ok(components)
 }
 
+/// Components of a size, checked: each wavelet at each rate, and one that is not intra; or which decoders
+/// differ on one.
+fn of_wavelets(size: (u32, u32), other_reference_jobs: bool) -> Result<Vec<Component>, String> {
+    let mut components = Vec::new();
+    for wavelet in WAVELETS {
+        let plan = Plan::new(size, wavelet);
+        for rate in RATES {
+            components.extend(checked(plan, &[rate], other_reference_jobs)?);
+            if wavelet == ONE_WAVELET && rate == NOT_INTRA_RATE {
+                let plan = Plan {
+                    intra: false,
+                    ..plan
+                };
+                components.extend(checked(plan, &[rate], other_reference_jobs)?);
+            }
+        }
+    }
+    Ok(components)
+}
+
 /// A component of a size for each of these codeblocks, checked; or which decoders differ on one.
 fn in_codeblocks(size: (u32, u32), all: &[Codeblocks]) -> Result<Vec<Component>, String> {
     let mut components = Vec::new();
@@ -42,10 +63,7 @@ fn in_codeblocks(size: (u32, u32), all: &[Codeblocks]) -> Result<Vec<Component>,
 
 /// The components whose instructions are counted, or which decoders differ on one.
 pub fn counted_components() -> Result<Vec<Component>, String> {
-    let mut components = Vec::new();
-    for wavelet in WAVELETS {
-        components.extend(checked(Plan::new(COUNTED_SIZE, wavelet), &RATES, false)?);
-    }
+    let mut components = of_wavelets(COUNTED_SIZE, false)?;
     components.extend(in_codeblocks(COUNTED_SIZE, &COUNTED_CODEBLOCKS)?);
     let small = Plan::new(OTHER_SIZES[0], ONE_WAVELET);
     components.extend(checked(small, &RATES[..1], false)?);
@@ -54,10 +72,7 @@ pub fn counted_components() -> Result<Vec<Component>, String> {
 
 /// The components of all tables, or which decoders differ on one.
 pub fn components() -> Result<Vec<Component>, String> {
-    let mut components = Vec::new();
-    for wavelet in WAVELETS {
-        components.extend(checked(Plan::new(FULL_SIZE, wavelet), &RATES, true)?);
-    }
+    let mut components = of_wavelets(FULL_SIZE, true)?;
     let plan = Plan::new(FULL_SIZE, ONE_WAVELET);
     components.extend(checked(plan, &OTHER_RATES, false)?);
     for size in OTHER_SIZES {
@@ -75,12 +90,14 @@ fn is_of_wavelets(component: &Component) -> bool {
 
 /// Whether a component is one of the table of sizes.
 fn is_of_sizes(component: &Component) -> bool {
-    component.parameters.wavelet == ONE_WAVELET && component.rate == RATES[0]
+    let p = &component.parameters;
+    p.intra && p.wavelet == ONE_WAVELET && component.rate == RATES[0]
 }
 
 /// Whether a component is one of the table of rates.
 fn is_of_rates(component: &Component) -> bool {
-    component.parameters.wavelet == ONE_WAVELET && component.size() == FULL_SIZE
+    let p = &component.parameters;
+    p.intra && p.wavelet == ONE_WAVELET && component.size() == FULL_SIZE
 }
 
 /// Whether a component is one of the table of many codeblocks, and of no other.
@@ -91,7 +108,8 @@ fn is_of_codeblocks(component: &Component) -> bool {
 /// Whether a component is measured with large numbers, too, and with refusals if it is of the one
 /// wavelet.
 fn is_of_exact(component: &Component) -> bool {
-    component.size() == FULL_SIZE && component.rate == RATES[RATES.len() - 1]
+    let is_intra = component.parameters.intra;
+    is_intra && component.size() == FULL_SIZE && component.rate == RATES[RATES.len() - 1]
 }
 
 /// What is measured in every pass, and the best of it so far.

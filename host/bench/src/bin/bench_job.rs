@@ -4,22 +4,22 @@
 use kafsillun::Parameters;
 use std::{env, fs};
 
-/// The words after the body's: width, height, depth, wavelet, codeblocks across and down at every level,
-/// and how often each job runs.
-const NUMBERS: usize = 9;
+/// The words after the body's: width, height, depth, wavelet, 1 if intra and 0 if not, codeblocks across
+/// and down at every level, and how often each job runs.
+const NUMBERS: usize = 10;
 
 fn main() {
     let mut words = env::args().skip(1);
     let body = fs::read(words.next().expect("the name of a body")).expect("a body");
     let numbers: Vec<u32> = words.map(|word| word.parse().expect("a number")).collect();
-    let numbers: [u32; NUMBERS] = numbers.try_into().expect("nine numbers");
-    let [width, height, depth, wavelet, across, down, unpacks, syntheses, decodes] = numbers;
+    let numbers: [u32; NUMBERS] = numbers.try_into().expect("ten numbers");
+    let [width, height, depth, wavelet, intra, across, down, unpacks, syntheses, decodes] = numbers;
     let p = Parameters {
         width,
         height,
         depth,
         wavelet,
-        intra: true,
+        intra: intra == 1,
         codeblocks_across: [across; 5],
         codeblocks_down: [down; 5],
     };

@@ -1,17 +1,20 @@
 //! Tests on small pictures; no figure is tested.
 
 use bench::codeblocks::{self, CodeblockTimes};
-use bench::components::{Codeblocks, Component, Plan, Rate};
+use bench::components::{
+    Codeblocks, Component, Plan, Rate, COUNTED_SIZE, NOT_INTRA_RATE, ONE_WAVELET,
+};
 use bench::decoders::{check, measure, Effort, Planes, PROVED};
 use bench::exact::LargeAndSmall;
 use bench::instructions::{collected, valgrind_version, CountReport, Counts};
 use bench::libavcodec::Libavcodec;
 use bench::picture;
 use bench::refusals::{self, calls};
-use bench::report::{CodeblockRow, ExactRow, RefusalRow, Report, Row};
+use bench::report::{head_cells, CodeblockRow, ExactRow, RefusalRow, Report, Row};
 use bench::timing::{take_turns, Timed};
 use std::cell::RefCell;
 use std::path::Path;
+use vectors::offsets::shows_rule;
 
 /// A small picture with a wavelet.
 fn small(wavelet: u32) -> Plan {
@@ -20,6 +23,7 @@ fn small(wavelet: u32) -> Plan {
         height: 48,
         depth: 2,
         wavelet,
+        intra: true,
         codeblocks: Codeblocks::ONE,
     }
 }
@@ -33,6 +37,15 @@ const RATE: Rate = Rate {
 /// A small component with a wavelet.
 fn component(wavelet: u32) -> Component {
     Component::of(small(wavelet), &[RATE]).remove(0)
+}
+
+/// A small component of wavelet 1 that is not intra.
+fn not_intra() -> Component {
+    let plan = Plan {
+        intra: false,
+        ..small(1)
+    };
+    Component::of(plan, &[RATE]).remove(0)
 }
 
 /// A small component of wavelet 1 in codeblocks.
@@ -88,6 +101,29 @@ fn all_decoders_agree() {
             "wavelet {wavelet}"
         );
     }
+    assert_eq!(check(&not_intra(), true), Ok(()), "not intra");
+}
+
+#[test]
+fn one_that_is_not_intra_has_the_body_of_the_intra_one() {
+    let [intra, other] = [component(1), not_intra()];
+    assert_eq!(other.body, intra.body);
+    let [unpack, ..] = PROVED;
+    let [intra, other] = [intra, other].map(|component| {
+        let mut planes = Planes::new(&component);
+        unpack(&component, &mut planes);
+        planes.coefficients
+    });
+    // The lower half is of the last level, which is not predicted.
+    let half = intra.len() / 2;
+    assert_ne!(intra[half..], other[half..]);
+}
+
+#[test]
+fn the_offset_shows_at_the_rate_that_is_not_intra() {
+    let plan = Plan::new(COUNTED_SIZE, ONE_WAVELET);
+    let component = Component::of(plan, &[NOT_INTRA_RATE]).remove(0);
+    assert!(shows_rule(1, component.index));
 }
 
 #[test]
@@ -207,6 +243,7 @@ fn reference_and_libavcodec_take_part_if_asked_to_and_installed() {
         ..ONE_TURN
     };
     assert!(measure(&component, alone).reference.is_none());
+    assert!(measure(&not_intra(), ONE_TURN).libavcodec.is_none());
 }
 
 #[test]
@@ -215,12 +252,13 @@ fn the_report_has_a_row_for_each_component() {
     let mut speeds = measure(&component, ONE_TURN);
     speeds.libavcodec = None;
     let row = Row::new(&component, speeds);
+    let not_intra = Row::new(&not_intra(), speeds);
     let both = LargeAndSmall::of(&component).unwrap();
     let calls = calls(&component).unwrap();
     let times = |unpack, decode| CodeblockTimes { unpack, decode };
     let flagged = divided(Codeblocks::flagged(16, 12));
     let report = Report {
-        wavelets: vec![row.clone()],
+        wavelets: vec![row.clone(), not_intra],
         sizes: vec![row.clone(), row],
         rates: vec![],
         codeblocks: vec![
@@ -232,6 +270,7 @@ fn the_report_has_a_row_for_each_component() {
     };
     let text = report.to_string();
     assert_eq!(text.matches("| 64 x 48 | 2 | 1 |").count(), 3 + 2 + 2);
+    assert_eq!(text.matches("| 64 x 48 | 2 | 1, not intra |").count(), 3);
     assert_eq!(
         text.matches("| not installed | not installed |").count(),
         1 + 2
@@ -263,13 +302,17 @@ fn instructions_of_decode_are_those_of_its_parts() {
         return;
     }
     let program = Path::new(env!("CARGO_BIN_EXE_bench_job"));
-    for component in [component(1), divided(Codeblocks::written_out(3, 2))] {
+    for component in [
+        component(1),
+        not_intra(),
+        divided(Codeblocks::written_out(3, 2)),
+    ] {
         let counts = Counts::of(&component, program).unwrap();
         let [unpack, synthesise, decode] = counts.a_sample;
         assert!(unpack > 1.0 && synthesise > 1.0);
         assert!((0.9..1.1).contains(&(decode / (unpack + synthesise))));
         let text = CountReport(vec![counts]).to_string();
-        assert!(text.contains("| 64 x 48 | 2 | 1 |"));
+        assert!(text.contains(&format!("| {} |", head_cells(&component).join(" | "))));
         assert!(text.contains(&format!(" | {} | ", component.codeblocks)));
         assert!(Counts::of(&component, Path::new("no-such-program")).is_err());
     }
