@@ -50,10 +50,10 @@ fn body_with_numbers(p: &Parameters, has: impl Fn(usize) -> bool) -> Vec<u8> {
     for (k, (band, index)) in subbands(p).iter().zip(indices_that_show_rule()).enumerate() {
         options.subbands[k].quantiser = u64::from(index);
         let number = least_that_shows_rule(index).expect("an index that shows the rule");
-        for place in 0..band.width * band.height {
-            let (x, y) = (place % band.width, place / band.width);
+        for entry in 0..band.width * band.height {
+            let (x, y) = (entry % band.width, entry / band.width);
             plane[(band.top + y) * padded_width(p) + band.left + x] =
-                i64::from(has(k)) * [number, -number, 0][place % 3];
+                i64::from(has(k)) * [number, -number, 0][entry % 3];
         }
     }
     encode_body(p, &plane, &options)
