@@ -1,5 +1,5 @@
--- Document 01, "One subband", and document 02, request Three: its data and its prediction, after its header. A run goes on at a bit, counted from the start of the bytes. The
--- plane that a subband starts with holds zeros where the subband stands: what is not read stays zero.
+-- Document 01, "One subband", and document 02, request Three: its data and its prediction, after its header. A run goes on at a bit, counted
+-- from the start of the bytes. The plane that a subband starts with holds zeros where the subband stands: what is not read stays zero.
 use Prim.Native.Nat.{ℕ, zero, suc, _+_, _*_, _/_}
 use mathlib.Core.Bool.{Bool, false, cond}
 use mathlib.Core.List.{List}
@@ -67,7 +67,7 @@ codeblocksOf p k =
     }
 
 module _ (p : Parameters) (bytes : List ℕ) where
-  -- "Dequantising now depends on the intra flag": the picture's, in every subband
+  -- "For a picture that isn't intra": the flag is the picture's, in every subband
   unfoldable pub subbandFrom : ℕ → ℕ → List ℤ → Run
   subbandFrom k at plane = headed (codeblocksOf p k) bytes (p .intra) (headerAt bytes at) plane
 

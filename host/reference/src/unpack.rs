@@ -154,17 +154,23 @@ pub fn quantiser_offset(index: u32, intra: bool) -> i64 {
 
 /// The value of a quantised number, which may lie outside 32 bits, in a picture that is intra or isn't.
 ///
-/// Document 01, "Dequantising": "Magnitude m > 0 becomes floor((m·factor + offset + 2)/4); 0 stays 0; the
-/// sign is kept." Document 02, "Difference pictures have another offset": "A magnitude 1 at index 12 reads
-/// 12 in intra and 11 otherwise."
+/// Document 02, "Difference pictures have another offset": "A magnitude 1 at index 12 reads 12 in intra and
+/// 11 otherwise."
 pub fn dequantise(quantised: i64, index: u32, intra: bool) -> i128 {
+    let offset = quantiser_offset(index, intra);
+    scaled(quantised, quantiser_factor(index), offset)
+}
+
+/// The value of a quantised number by a factor and an offset.
+///
+/// Document 01, "Dequantising": "Magnitude m > 0 becomes floor((m·factor + offset + 2)/4); 0 stays 0; the
+/// sign is kept."
+pub fn scaled(quantised: i64, factor: i64, offset: i64) -> i128 {
     let m = i128::from(quantised).abs();
     if m == 0 {
         return 0;
     }
-    let factor = i128::from(quantiser_factor(index));
-    let offset = i128::from(quantiser_offset(index, intra));
-    let magnitude = (m * factor + offset + 2) / 4;
+    let magnitude = (m * i128::from(factor) + i128::from(offset) + 2) / 4;
     if quantised < 0 {
         -magnitude
     } else {

@@ -4,9 +4,9 @@
 use crate::offsets::{indices_that_show_rule, largest_that_fits, least_that_shows_rule};
 use crate::pieces::{bits, plain, random_options, subband_bytes, with_random_codeblocks};
 use crate::random::Random;
-use crate::recording_vectors::{entry_of, picture_entry, Recording};
+use crate::recording_vectors::{entries_of_every_index, entry_of, picture_entry, Recording};
 use reference::encode::{encode_body, EncodeOptions, SubbandOptions};
-use reference::params::{padded_area, padded_width, subbands, Parameters, MAX_QUANTISER};
+use reference::params::{padded_area, padded_width, subbands, Parameters};
 use reference::recording::Entry;
 
 /// Every recording of this module.
@@ -37,27 +37,12 @@ fn stated_value() -> Vec<Entry> {
         .concat()
 }
 
-/// Every quantiser index: 13 to a component of depth 4, and the highest, 4 to one of depth 1. Each subband has
-/// the least magnitude that shows the rule, or 1, at its first position; level 0 is a single value, to which
-/// prediction adds 0.
+/// Every quantiser index. Each subband has the least magnitude that shows the rule, or 1, at its first position;
+/// level 0 is a single value, to which prediction adds 0.
 fn every_index(intra: bool) -> Vec<Entry> {
-    let mut entries = Vec::new();
-    let mut index = 0;
-    while index <= MAX_QUANTISER {
-        let depth = if index < 104 { 4 } else { 1 };
-        let p = plain(1 << depth, 1 << depth, depth, 3, intra);
-        let mut plane = vec![0i64; padded_area(&p)];
-        let mut options = EncodeOptions::uniform(&p, SubbandOptions::default());
-        for (k, band) in subbands(&p).iter().enumerate() {
-            let magnitude = least_that_shows_rule(index as u32).unwrap_or(1);
-            let sign = if k % 2 == 0 { 1 } else { -1 };
-            plane[band.top * padded_width(&p) + band.left] = sign * magnitude;
-            options.subbands[k].quantiser = index;
-            index += 1;
-        }
-        entries.push(entry_of(&p, encode_body(&p, &plane, &options)));
-    }
-    entries
+    entries_of_every_index(1, intra, |_, index| {
+        (0, 0, least_that_shows_rule(index).unwrap_or(1))
+    })
 }
 
 /// Difference pictures of the depths 2 to 4, with another index in each subband, in one codeblock and in

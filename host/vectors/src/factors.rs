@@ -4,7 +4,7 @@
 //! Every factor comes from [`quantiser_factor`], the reference's reading of document 01's formulas.
 
 use reference::params::MAX_QUANTISER;
-use reference::unpack::{quantiser_factor, quantiser_offset};
+use reference::unpack::{quantiser_factor, quantiser_offset, scaled};
 
 /// What the file says of itself.
 const HEAD: &str = "\
@@ -28,8 +28,7 @@ pub fn factors() -> String {
 /// a picture that is intra or isn't. The offset is the right factor's; one made of the wrong factor would take
 /// the value no nearer.
 pub fn shows_factor(number: i64, index: u32, intra: bool) -> bool {
-    let factor = i128::from(quantiser_factor(index));
-    let offset = i128::from(quantiser_offset(index, intra));
-    let value = |factor| (i128::from(number.abs()) * factor + offset + 2) / 4;
+    let factor = quantiser_factor(index);
+    let value = |factor| scaled(number, factor, quantiser_offset(index, intra));
     value(factor - 1) != value(factor) && value(factor) != value(factor + 1)
 }

@@ -3,7 +3,7 @@
 //! alone.
 
 use reference::params::MAX_QUANTISER;
-use reference::unpack::{dequantise, quantiser_factor, quantiser_offset};
+use reference::unpack::{dequantise, quantiser_factor, quantiser_offset, scaled};
 
 /// Magnitudes that stand for all: the value of one that is 4 more is a factor more, whatever the offset. So
 /// either both show that an offset is wrong, or neither does.
@@ -16,10 +16,8 @@ pub fn shows_rule(number: i64, index: u32) -> bool {
 
 /// Whether a number becomes another value if the offset of an index is so much more, or less.
 pub fn shows_offset(number: i64, index: u32, intra: bool, more: i64) -> bool {
-    let factor = i128::from(quantiser_factor(index));
-    let offset = quantiser_offset(index, intra);
-    let value = |offset| (i128::from(number.abs()) * factor + i128::from(offset) + 2) / 4;
-    number != 0 && value(offset + more) != value(offset)
+    let offset = quantiser_offset(index, intra) + more;
+    scaled(number, quantiser_factor(index), offset) != dequantise(number, index, intra)
 }
 
 /// The least magnitude that shows the rule at an index, or none where no magnitude does.

@@ -318,25 +318,38 @@ fn codeblock_recordings() -> Vec<Recording> {
     recordings
 }
 
-/// Every quantiser index: 13 to a component of depth 4, and the highest, 4 to one of depth 1. One number
-/// of each subband is 1 or -1, not all at the same position, so that no sum leaves 32 bits.
+/// Every quantiser index. One number of each subband is 1 or -1, not all at the same position, so that no sum
+/// leaves 32 bits.
 fn quantiser_recordings() -> Vec<Recording> {
+    let entries = entries_of_every_index(2, false, |k, _| (k % 2, k / 2 % 2, 1));
+    vec![Recording::new("quantiser-every-index", &entries)]
+}
+
+/// Every quantiser index: 13 to a component of depth 4, and the highest, 4 to one of depth 1. Level 0 has so many
+/// columns and rows. Each subband has one number, above and below 0 in turn; its column, its row and its
+/// magnitude follow from the subband's number in stream order and its index.
+pub(crate) fn entries_of_every_index(
+    size: u32,
+    intra: bool,
+    number: impl Fn(usize, u32) -> (usize, usize, i64),
+) -> Vec<Entry> {
     let mut entries = Vec::new();
     let mut index = 0;
     while index <= MAX_QUANTISER {
         let depth = if index < 104 { 4 } else { 1 };
-        let p = plain(2 << depth, 2 << depth, depth, 3, false);
+        let p = plain(size << depth, size << depth, depth, 3, intra);
         let mut plane = vec![0i64; padded_area(&p)];
         let mut options = EncodeOptions::uniform(&p, SubbandOptions::default());
         for (k, band) in subbands(&p).iter().enumerate() {
-            let (x, y) = (band.left + k % 2, band.top + k / 2 % 2);
-            plane[y * padded_width(&p) + x] = if k % 2 == 0 { 1 } else { -1 };
+            let (x, y, magnitude) = number(k, index as u32);
+            let sign = if k % 2 == 0 { 1 } else { -1 };
+            plane[(band.top + y) * padded_width(&p) + band.left + x] = sign * magnitude;
             options.subbands[k].quantiser = index;
             index += 1;
         }
         entries.push(entry_of(&p, encode_body(&p, &plane, &options)));
     }
-    vec![Recording::new("quantiser-every-index", &entries)]
+    entries
 }
 
 /// Bytes and bits that aren't read (those after the used part of a body are refused 12), bits that are read

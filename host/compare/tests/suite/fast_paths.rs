@@ -119,35 +119,38 @@ fn read_row(
     Ok(())
 }
 
+/// A subband of a component, with its quantiser index and its data.
+pub struct CodedBand<'a> {
+    pub p: &'a Parameters,
+    pub band: &'a Subband,
+    pub index: u32,
+    pub data: &'a [u8],
+}
+
+/// A reader of a subband's codeblocks into a plane, with a fault.
+pub type ReadBand = fn(&CodedBand, &mut [i32], u8) -> Result<(), u32>;
+
 /// Reads the codeblocks of a subband.
-fn read_band(
-    p: &Parameters,
-    band: &Subband,
-    index: u32,
-    data: &[u8],
-    plane: &mut [i32],
-    fault: u8,
-) -> Result<(), u32> {
-    read_values(p, band, data, plane, fault, |number, is_short| {
+fn read_band(coded: &CodedBand, plane: &mut [i32], fault: u8) -> Result<(), u32> {
+    read_values(coded, plane, fault, |number, is_short| {
         let is_wrong = match fault {
             SHORT_INTRA => is_short,
             LONG_INTRA => !is_short,
             _ => false,
         };
-        dequantise(number, index, p.intra || is_wrong)
+        dequantise(number, coded.index, coded.p.intra || is_wrong)
     })
 }
 
 /// Reads the codeblocks of a subband. The value of a number is told by a function of it and of whether its
 /// code is short.
 pub fn read_values(
-    p: &Parameters,
-    band: &Subband,
-    data: &[u8],
+    coded: &CodedBand,
     plane: &mut [i32],
     fault: u8,
     value: impl Fn(i64, bool) -> i128,
 ) -> Result<(), u32> {
+    let &CodedBand { p, band, data, .. } = coded;
     let across = p.codeblocks_across[band.level as usize] as usize;
     let down = p.codeblocks_down[band.level as usize] as usize;
     let span =
@@ -167,9 +170,6 @@ pub fn read_values(
     Ok(())
 }
 
-/// A reader of a subband's codeblocks: from its data, with an index, into a plane, with a fault.
-pub type ReadBand = fn(&Parameters, &Subband, u32, &[u8], &mut [i32], u8) -> Result<(), u32>;
-
 /// Reads a subband that starts at a byte, and predicts it; answers where it ends.
 fn unpack_band(
     p: &Parameters,
@@ -177,7 +177,7 @@ fn unpack_band(
     bytes: &[u8],
     start: usize,
     plane: &mut [i32],
-    read: impl FnOnce(u32, &[u8], &mut [i32]) -> Result<(), u32>,
+    read: impl FnOnce(&CodedBand, &mut [i32]) -> Result<(), u32>,
 ) -> Result<usize, u32> {
     let mut header = BitReader::new(&bytes[start..], PastEnd::Missing);
     let length = header.number()? as usize;
@@ -188,7 +188,14 @@ fn unpack_band(
     }
     let data = bytes.get(from..from + length).ok_or(6u32)?;
     if length > 0 {
-        read(index as u32, data, plane)?;
+        let index = index as u32;
+        let coded = CodedBand {
+            p,
+            band,
+            index,
+            data,
+        };
+        read(&coded, plane)?;
     }
     if p.intra && band.level == 0 {
         for y in 0..band.height {
@@ -214,8 +221,7 @@ fn unpack(
     plane.fill(0);
     let mut start = 0;
     for (k, band) in subbands(p).iter().enumerate() {
-        let read =
-            |index, data: &[u8], plane: &mut [i32]| read_band(p, band, index, data, plane, fault);
+        let read = |coded: &CodedBand, plane: &mut [i32]| read_band(coded, plane, fault);
         match unpack_band(p, band, bytes, start, plane, read) {
             Ok(end) => start = end,
             Err(status) => {

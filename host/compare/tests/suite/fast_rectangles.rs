@@ -3,9 +3,9 @@
 //! cases.
 
 use crate::codes::cases;
-use crate::fast_paths::{fast_unpack, found, Bits, NONE};
+use crate::fast_paths::{fast_unpack, found, Bits, CodedBand, NONE};
 use compare::{check, Buffers, Decoder, Job, Kind};
-use reference::params::{padded_width, Subband};
+use reference::params::padded_width;
 use reference::unpack::{codeblock_start, dequantise};
 use reference::{Answer, Parameters};
 
@@ -196,14 +196,13 @@ fn layouts(start: usize, stride: usize, width: usize, height: usize, fault: u8) 
 }
 
 /// Reads the codeblocks of a subband.
-fn read_band(
-    p: &Parameters,
-    band: &Subband,
-    index: u32,
-    data: &[u8],
-    plane: &mut [i32],
-    fault: u8,
-) -> Result<(), u32> {
+fn read_band(coded: &CodedBand, plane: &mut [i32], fault: u8) -> Result<(), u32> {
+    let &CodedBand {
+        p,
+        band,
+        index,
+        data,
+    } = coded;
     let across = p.codeblocks_across[band.level as usize] as usize;
     let down = p.codeblocks_down[band.level as usize] as usize;
     let stride = padded_width(p);

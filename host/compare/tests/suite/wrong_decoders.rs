@@ -1,9 +1,8 @@
 //! Decoders with one fault each are found out.
 
-use crate::fast_paths::{fast_unpack, found, read_values, NONE};
+use crate::fast_paths::{fast_unpack, found, read_values, CodedBand, NONE};
 use compare::{check, reference, Buffers, Case, Decoder, Job};
-use reference::params::Subband;
-use reference::unpack::{quantiser_factor, quantiser_offset};
+use reference::unpack::{quantiser_factor, quantiser_offset, scaled};
 use reference::{Answer, Parameters};
 
 /// How many cases a decoder is tried on.
@@ -109,7 +108,8 @@ const NOT_ROUNDED: u8 = 4;
 const INDEX_0: u8 = 5;
 
 /// The offset of an index in a subband, with a fault.
-fn offset_with_fault(p: &Parameters, band: &Subband, index: u32, fault: u8) -> i64 {
+fn offset_with_fault(coded: &CodedBand, fault: u8) -> i64 {
+    let &CodedBand { p, band, index, .. } = coded;
     let factor = quantiser_factor(index);
     match fault {
         ALL_INTRA => quantiser_offset(index, true),
@@ -122,20 +122,11 @@ fn offset_with_fault(p: &Parameters, band: &Subband, index: u32, fault: u8) -> i
 }
 
 /// Reads the codeblocks of a subband with a fault in the offset.
-fn read_band(
-    p: &Parameters,
-    band: &Subband,
-    index: u32,
-    data: &[u8],
-    plane: &mut [i32],
-    fault: u8,
-) -> Result<(), u32> {
-    let offset = i128::from(offset_with_fault(p, band, index, fault));
-    let factor = i128::from(quantiser_factor(index));
-    read_values(p, band, data, plane, NONE, |number, _| {
-        let magnitude = i128::from(number.abs());
-        let value = (magnitude * factor + offset + 2) / 4;
-        i128::from(number.signum()) * value
+fn read_band(coded: &CodedBand, plane: &mut [i32], fault: u8) -> Result<(), u32> {
+    let factor = quantiser_factor(coded.index);
+    let offset = offset_with_fault(coded, fault);
+    read_values(coded, plane, NONE, |number, _| {
+        scaled(number, factor, offset)
     })
 }
 

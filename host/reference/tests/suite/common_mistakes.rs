@@ -3,7 +3,9 @@
 
 use crate::common::*;
 use reference::transform::{filter_line, shift_down, FILTERS};
-use reference::unpack::{dequantise, predict_from_three, quantiser_factor, quantiser_offset};
+use reference::unpack::{
+    dequantise, predict_from_three, quantiser_factor, quantiser_offset, scaled,
+};
 
 #[test]
 fn rows_before_columns() {
@@ -134,8 +136,8 @@ fn edge_rules_in_a_picture() {
 }
 
 /// The values of 1, 2, 3 and 4 at an index with an offset.
-fn values_with_offset(index: u32, offset: i64) -> [i64; 4] {
-    [1, 2, 3, 4].map(|m| (m * quantiser_factor(index) + offset + 2) / 4)
+fn values_with_offset(index: u32, offset: i64) -> [i128; 4] {
+    [1, 2, 3, 4].map(|m| scaled(m, quantiser_factor(index), offset))
 }
 
 #[test]
