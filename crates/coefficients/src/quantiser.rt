@@ -25,6 +25,16 @@ pub fn quantiser_of(intra: bool, index: u32) -> Quantiser
     Quantiser { factor, offset }
 }
 
+// The same, where the factors of all indices are at hand.
+pub fn quantiser_by(factors: &[u32; 116], intra: bool, index: u32) -> Quantiser
+    requires { ⌜ (index ≤ 115) × KnowsFactors (now factors) ⌝ }
+    ensures { λ r. ⌜ (scaleOf r ≡ dequantise intra index) × Bounded r ⌝ }
+{
+    let factor = factors[index as usize] as u64;
+    let offset = quant_offset(intra, index, factor);
+    Quantiser { factor, offset }
+}
+
 // A size that was read, dequantised.
 pub fn dequantised(q: Quantiser, size: u32) -> u64
     requires { ⌜ Bounded q ⌝ }
@@ -74,7 +84,7 @@ fn quant_factor(index: u32) -> u64
 }
 
 // The factors of all indices.
-fn factor_table() -> [u32; 116]
+pub fn factor_table() -> [u32; 116]
     ensures { λ r. ⌜ KnowsFactors r ⌝ }
 {
     FACTORS

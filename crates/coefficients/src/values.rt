@@ -345,7 +345,7 @@ fn read_value(
 }
 
 // What follows where no number was read: its refusal, or, where a bit is missing, that it is not all there.
-fn not_read(number: Number, cursor: Cursor) -> Portion
+pub fn not_read(number: Number, cursor: Cursor) -> Portion
     requires { ⌜ cursor .origin + nextOf number < 2 ^ 63 ⌝ }
     ensures { λ r. ⌜ r ≡ notRead number cursor ⌝ }
 {
@@ -367,7 +367,7 @@ fn not_read(number: Number, cursor: Cursor) -> Portion
 }
 
 // Stores a number that was read, dequantised, at an index of the plane.
-fn store_value(
+pub fn store_value(
     plane: &mut [i32],
     index: usize,
     size: u32,

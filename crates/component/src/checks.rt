@@ -34,7 +34,7 @@ pub fn refusal(job: Job, p: Parameters, lengths: Lengths) -> u32
 }
 
 // Whether the number lies in a range, both ends included.
-fn in_range(low: u32, high: u32, n: u32) -> bool
+pub fn in_range(low: u32, high: u32, n: u32) -> bool
     ensures { λ r. ⌜ r ≡ inRange low high n ⌝ }
 {
     low <= n && n <= high

@@ -4,7 +4,6 @@ use mathlib.Core.Path.{_≡_, refl, sym, ap, _∙_}
 use mathlib.Core.Bool.{Bool, true, false}
 use mathlib.Core.List.{List}
 use Prim.Native.Nat.{ℕ, _+_, _*_, min}
-use native.Mathlib.Nat.{zero-add}
 use native.Mathlib.Omega.{arith}
 use lib.ListN.{length}
 use borrow.Author.Tests.{lt-ltb, le-ltb, ltb-false}
@@ -15,7 +14,7 @@ use Rattle.exp_golomb.specs.declared.bits.Bit.the-variants.{Taken, Absen
 use Rattle.exp_golomb.specs.declared.codes.Number.{Number}
 use Rattle.exp_golomb.specs.declared.codes.Number.the-variants.{Read, Missing, TooLong}
 use Rattle.exp_golomb.proofs.BitsLaws.{take-present, take-absent, take-past-stated, present-below}
-use Rattle.exp_golomb.proofs.Moved.{moved, NotMissing, Has, signed-moved}
+use Rattle.exp_golomb.proofs.Moved.{moved, NotMissing, signed-moved}
 
 module _ (stated : Bool) (a : List ℕ) (endA : ℕ) (b : List ℕ) (endB : ℕ) (begins : Begins stated a endA b endB) where
   pub bit-begins : (k bit next : ℕ) → takeBit a endA stated k ≡ Taken bit next → takeBit b endB true k ≡ Taken bit next
@@ -39,16 +38,14 @@ module _ (stated : Bool) (a : List ℕ) (endA : ℕ) (b : List ℕ) (endB : ℕ)
               let z : _≡_ {A = ℕ} 0 1 = cc in
               absurd (omega arith)
 
-  begins-has : Has 0 (record { bytes = a; end = endA; stated = stated }) (record { bytes = b; end = endB; stated = true })
-  begins-has k bit next e = rw (zero-add k, zero-add next) (bit-begins k bit next e)
-
-  moved-none : (n : Number) → moved 0 n ≡ n
-  moved-none (Read size minus next) = ap (λ (k : ℕ). Read size minus k) (zero-add next)
-  moved-none (Missing next) = ap (λ (k : ℕ). Missing k) (zero-add next)
-  moved-none (TooLong next) = ap (λ (k : ℕ). TooLong k) (zero-add next)
+  moved-none : (n : Number) → moved (λ k. k) n ≡ n
+  moved-none (Read size minus next) = refl
+  moved-none (Missing next) = refl
+  moved-none (TooLong next) = refl
 
   pub signed-begins : (i : ℕ) (n : Number) → signed a endA stated i ≡ n → NotMissing n → signed b endB true i ≡ n
-  signed-begins i n e whole = rw (zero-add i) at (signed-moved 0 _ _ begins-has i n e whole ∙ moved-none n)
+  signed-begins i n e whole =
+      signed-moved (λ k. k) (record { bytes = a; end = endA; stated = stated }) (record { bytes = b; end = endB; stated = true }) bit-begins i n e whole ∙ moved-none n
 
 -- data begin themselves
 pub begins-itself : (stated : Bool) (a : List ℕ) (end : ℕ) → Begins stated a end a end

@@ -4,7 +4,6 @@ use mathlib.Core.Path.{_≡_, sym, ap, _∙_}
 use mathlib.Core.Bool.{Bool, true, false}
 use mathlib.Core.List.{List, _++_}
 use Prim.Native.Nat.{ℕ, _+_, _-_, _*_, _/_, _%_, _^_, _≤_, _<_, min}
-use native.Mathlib.Nat.{zero-add}
 use native.Mathlib.Omega.{arith}
 use lib.ListN.{length, length-append, List·getD-append}
 use borrow.Author.Tests.{lt-ltb}
@@ -28,11 +27,10 @@ bit-before used tail k before =
 pub number-followed : (used a b : List ℕ) (i size : ℕ) (minus : Bool) (next : ℕ) → next ≤ 8 * length used →
     unsigned (used ++ a) (8 * length (used ++ a)) false i ≡ Read size minus next → unsigned (used ++ b) (8 * length (used ++ b)) false i ≡ Read size minus next
 number-followed used a b i size minus next inside read =
-    let moved = unsigned-moved-upto 0 next
+    unsigned-moved-upto (λ k. k) next
     (record { bytes = used ++ a; end = 8 * length (used ++ a); stated = false })
     (record { bytes = used ++ b; end = 8 * length (used ++ b); stated = false })
     (λ k bit after within e.
     let further = unstated-taken (used ++ a) (8 * length (used ++ a)) k bit after e .2 in
-    rw (zero-add k, zero-add after) (bit-before used b k (omega arith) ∙ sym (bit-before used a k (omega arith)) ∙ e))
-    i (Read size minus next) read tt (omega arith) in
-    rw (zero-add i, zero-add next) at moved
+    bit-before used b k (omega arith) ∙ sym (bit-before used a k (omega arith)) ∙ e)
+    i (Read size minus next) read tt (omega arith)

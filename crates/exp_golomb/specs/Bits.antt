@@ -1,7 +1,7 @@
 -- Document 01, "Number codes": the bits of a list of bytes, and taking one.
 -- Bits count from 0 at the first byte's top. Data end at bit `end`, and never after the bytes do; `stated` says that they are block data
 -- of a stated length.
-use Prim.Native.Nat.{ℕ, _+_, _-_, _*_, _/_, _%_, _^_, min}
+use Prim.Native.Nat.{ℕ, zero, suc, _+_, _-_, _*_, _/_, _%_, _^_, min}
 use mathlib.Core.Bool.{Bool, cond}
 use mathlib.Core.List.{List}
 use lib.Dec.{ltb}
@@ -12,6 +12,11 @@ use Rattle.exp_golomb.specs.declared.bits.Bit.the-variants.{Taken, Absen
 -- "Bits are taken from the top of each byte."
 unfoldable pub bitAt : List ℕ → ℕ → ℕ
 bitAt bytes i = getD bytes (i / 8) 0 / 2 ^ (7 - i % 8) % 2
+
+-- The n bits from bit i on, as a number, the first at its top.
+unfoldable pub bitsFrom : List ℕ → ℕ → ℕ → ℕ
+bitsFrom bytes i zero = 0
+bitsFrom bytes i (suc n) = 2 * bitsFrom bytes i n + bitAt bytes (i + n)
 
 -- Whether a bit of the data is there.
 unfoldable pub present : List ℕ → ℕ → ℕ → Bool

@@ -14,9 +14,9 @@ use borrow.Author.Tests.{eqb-true, ltb-true, eq-eqb, ne-eqb}
 use Rattle.base.specs.Every.{allBelow}
 use Rattle.base.proofs.EveryLaws.{all-at}
 use Rattle.base.proofs.Booleans.{and-left, and-right}
-use Rattle.exp_golomb.specs.Bits.{bitAt, present, takeBit}
+use Rattle.exp_golomb.specs.Bits.{bitAt, bitsFrom, present, takeBit}
 use Rattle.exp_golomb.specs.Codes.{codeFrom, unsigned, signed}
-use Rattle.lookups.specs.Windows.{bitsFrom, Ahead}
+use Rattle.lookups.specs.Windows.{Ahead}
 use Rattle.lookups.specs.Lookups.{Describes, KnowsCodes, lookupOf}
 use Rattle.exp_golomb.specs.declared.bits.Bit.the-variants.{Taken}
 use Rattle.exp_golomb.specs.declared.codes.Number.{Number}
@@ -163,5 +163,5 @@ module _ (bytes : List ℕ) (end : ℕ) where
 
     pub lookup-number : s .count ≢ s .zeros → signed bytes end true (i + s .zeros) ≡ Read (s .value / 2) (eqb (s .value % 2) 1) (i + s .bits)
     lookup-number other =
-        signed-moved i (record { bytes = c ∷ []; end = 8; stated = false }) (record { bytes = bytes; end = end; stated = true })
+        signed-moved (λ k. i + k) (record { bytes = c ∷ []; end = 8; stated = false }) (record { bytes = bytes; end = end; stated = true })
         taken-there (s .zeros) _ (right .some other .1) tt

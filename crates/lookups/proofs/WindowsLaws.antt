@@ -13,9 +13,9 @@ use lib.ListN.{length, getD}
 use lib.Pow.{pow-pos, pow-add, high, low, field, shr-shr}
 use borrow.Author.Tests.{ltb-true, leb-true, lt-ltb, le-leb, lt-leb}
 use Rattle.base.proofs.Booleans.{and-left, and-right}
-use Rattle.exp_golomb.specs.Bits.{bitAt, present}
+use Rattle.exp_golomb.specs.Bits.{bitAt, bitsFrom, present}
 use Rattle.exp_golomb.specs.Begins.{Begins}
-use Rattle.lookups.specs.Windows.{bitsFrom, WindowThere, isWindow, windowOf, Ahead}
+use Rattle.lookups.specs.Windows.{WindowThere, isWindow, windowOf, Ahead}
 use Rattle.exp_golomb.proofs.BitsLaws.{bit-small}
 
 -- a shift up and a shift down are one shift down

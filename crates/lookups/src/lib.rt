@@ -4,7 +4,8 @@ ghost use mathlib.Core.Logic.{_≢_};
 ghost use Prim.Native.Nat.{_+_, _-_, _*_, _/_, _^_, _≤_, _<_};
 ghost use lib.Dec.{eqb};
 ghost use lib.ListN.{length};
-ghost use Rattle.lookups.specs.Windows.{bitsFrom, isWindow, windowOf};
+ghost use Rattle.exp_golomb.specs.Bits.{bitsFrom};
+ghost use Rattle.lookups.specs.Windows.{isWindow, windowOf};
 ghost use Rattle.lookups.specs.Lookups.{KnowsCodes, Describes};
 
 // What eight bits tell: so many zeros, with or without one more value, and the bits of all of them. The value is twice its

@@ -1,2 +1,3 @@
 pub mod WorkedExamples
 pub mod WholeCase
+pub mod LowDelayExamples

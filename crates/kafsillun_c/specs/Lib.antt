@@ -1,0 +1,2 @@
+-- Document 02
+pub mod Interface

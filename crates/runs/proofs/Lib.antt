@@ -1,0 +1,2 @@
+pub mod PaddedLaws
+pub mod RunsLaws

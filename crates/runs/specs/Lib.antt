@@ -1,0 +1,3 @@
+-- The code's own forms
+pub mod Padded
+pub mod Runs
