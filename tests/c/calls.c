@@ -173,8 +173,8 @@ static void *synthesise_in_thread(void *argument)
     return NULL;
 }
 
-/* Four threads at once, each with a stack of 48 KiB. */
-static void threads_agree(void *(*job)(void *), const char *what)
+/* Four threads at once, each with a stack of so many KiB. */
+static void threads_agree(void *(*job)(void *), int stack, const char *what)
 {
     enum { THREADS = 4 };
     static Turn turns[THREADS];
@@ -189,7 +189,7 @@ static void threads_agree(void *(*job)(void *), const char *what)
         expect_answer(synthesise_from(turns[i].number, turns[i].samples), 0, 0, what);
     }
     pthread_attr_init(&attributes);
-    pthread_attr_setstacksize(&attributes, 48 * 1024);
+    pthread_attr_setstacksize(&attributes, (size_t)stack * 1024);
     for (i = 0; i < THREADS; i++) {
         if (pthread_create(&threads[i], &attributes, job, &turns[i]) != 0) {
             break;
@@ -268,29 +268,51 @@ static void unpack_sees_each_parameter(void)
     expect(values[0] == 12, "unpack: a value of an intra picture");
 }
 
+/* The three planes that a call may write, of 8 entries at most, each of its own block. */
+typedef struct {
+    size_t length[3];
+    int32_t *plane[3];
+} Planes;
+
+static Planes new_planes(size_t first, size_t second, size_t third)
+{
+    Planes planes = {{0, 0, 0}, {NULL, NULL, NULL}};
+    int i;
+
+    planes.length[0] = first;
+    planes.length[1] = second;
+    planes.length[2] = third;
+    for (i = 0; i < 3; i++) {
+        planes.plane[i] = new_plane(planes.length[i]);
+        fill(planes.plane[i], planes.length[i], 76 + i);
+    }
+    return planes;
+}
+
+/* Whether new planes have what the status asks for, after 0 what is given here; and frees them. */
+static void expect_planes(Planes planes, uint32_t status, const int32_t expected[3][8], const char *what)
+{
+    int is_unchanged = status <= 5 || status == 13;
+    int i;
+
+    for (i = 0; i < 3; i++) {
+        if (status == 0) {
+            expect(memcmp(planes.plane[i], expected[i], planes.length[i] * sizeof expected[i][0]) == 0, what);
+        } else {
+            expect(all(planes.plane[i], planes.length[i], is_unchanged ? 76 + i : 0), what);
+        }
+        free(planes.plane[i]);
+    }
+}
+
 /* Decodes bytes over planes of 4 entries that have other numbers, and says whether all have what the status asks for. */
 static void decode_owes(KafsillunParameters p, const uint8_t *bytes, size_t length, uint32_t status, size_t place, const char *what)
 {
-    int32_t *coefficients = new_plane(4);
-    int32_t *work = new_plane(4);
-    int32_t *samples = new_plane(4);
+    static const int32_t expected[3][8] = {{10, 4, -2, 1}, {0, 0, 0, 0}, {9, 12, 7, 11}};
+    Planes planes = new_planes(4, 4, 4);
 
-    fill(coefficients, 4, 76);
-    fill(work, 4, 77);
-    fill(samples, 4, 78);
-    expect_answer(kafsillun_decode(p, bytes, length, coefficients, 4, work, 4, samples, 4), status, place, what);
-    if (status == 0) {
-        expect(coefficients[0] == 10 && coefficients[1] == 4 && coefficients[2] == -2 && coefficients[3] == 1, what);
-        expect(samples[0] == 9 && samples[1] == 12 && samples[2] == 7 && samples[3] == 11, what);
-        expect(all(work, 4, 0), what);
-    } else if (status <= 5) {
-        expect(all(coefficients, 4, 76) && all(work, 4, 77) && all(samples, 4, 78), what);
-    } else {
-        expect(all(coefficients, 4, 0) && all(work, 4, 0) && all(samples, 4, 0), what);
-    }
-    free(coefficients);
-    free(work);
-    free(samples);
+    expect_answer(kafsillun_decode(p, bytes, length, planes.plane[0], 4, planes.plane[1], 4, planes.plane[2], 4), status, place, what);
+    expect_planes(planes, status, expected, what);
 }
 
 static void decode_gives_each_status(void)
@@ -339,6 +361,117 @@ static void decode_sees_each_length(void)
     }
 }
 
+/* Luma of 4 by 2, chroma of 2 by 2, two slices side by side; and the coefficients of luma, C1 and C2. */
+static const KafsillunLowDelay picture = {4, 2, 2, 2, 1, 1, 2, 1, 9, 2, {2, 0, 0, 1, 0, 0, 0, 0, 0, 0, 0, 0, 0}};
+static const uint8_t slices[9] = {0x08, 0xF0, 0x8E, 0x5F, 0x04, 0x53, 0xCA, 0x47, 0x6F};
+static const int32_t of_picture[3][8] = {{5, 3, -3, 0, 0, 2, 3, 0}, {1, 0, 0, 0}, {-1, 4, 0, 0}};
+
+/* Unpacks bytes over planes of 8, 4 and 4 entries that have other numbers, and says whether all have what the status asks for. */
+static void unpack_low_delay_owes(KafsillunLowDelay p, const uint8_t *bytes, size_t length, uint32_t status, size_t place, const char *what)
+{
+    Planes planes = new_planes(8, 4, 4);
+
+    expect_answer(kafsillun_unpack_low_delay(p, bytes, length, planes.plane[0], 8, planes.plane[1], 4, planes.plane[2], 4), status, place, what);
+    expect_planes(planes, status, of_picture, what);
+}
+
+static void unpack_low_delay_gives_each_status(void)
+{
+    /* One slice of 11 bytes whose first luma value is 2^32, of 32 data bits; is 2^31; is 2^31 - 1, with 1 beside it. */
+    static const uint8_t long_code[11] = {0x01, 0x08, 0, 0, 0, 0, 0, 0, 0, 0x06, 0xFF};
+    static const uint8_t large[11] = {0x01, 0, 0, 0, 0, 0, 0, 0, 0, 0x1B, 0xFF};
+    static const uint8_t large_sum[11] = {0x01, 0x10, 0, 0, 0, 0, 0, 0, 0, 0x08, 0xBF};
+    uint8_t changed[9];
+    KafsillunLowDelay p = picture;
+
+    unpack_low_delay_owes(p, slices, 9, 0, 9, "unpack_low_delay: 0");
+    p.intra = 0x80000000;
+    unpack_low_delay_owes(p, slices, 9, 0, 9, "unpack_low_delay: intra");
+    p.matrix[4] = 128;
+    unpack_low_delay_owes(p, slices, 9, 0, 9, "unpack_low_delay: matrix entry of no subband");
+    unpack_low_delay_owes(picture, slices, 3, 6, 0, "unpack_low_delay: 6 in slice 0");
+    unpack_low_delay_owes(picture, slices, 8, 6, 1, "unpack_low_delay: 6 in slice 1");
+    unpack_low_delay_owes(picture, NULL, 0, 6, 0, "unpack_low_delay: 6, no bytes");
+    memcpy(changed, slices, sizeof changed);
+    changed[4] = 0xE8;
+    unpack_low_delay_owes(picture, changed, 9, 8, 1, "unpack_low_delay: 8");
+    changed[4] = 0x05;
+    changed[5] = 0xFF;
+    unpack_low_delay_owes(picture, changed, 9, 14, 1, "unpack_low_delay: 14");
+
+    p = picture;
+    p.slices_across = 1;
+    p.numerator = 11;
+    p.denominator = 1;
+    unpack_low_delay_owes(p, long_code, 11, 7, 0, "unpack_low_delay: 7");
+    unpack_low_delay_owes(p, large, 11, 9, 0, "unpack_low_delay: 9");
+    unpack_low_delay_owes(p, large_sum, 11, 9, 1, "unpack_low_delay: 9 in prediction");
+}
+
+static void unpack_low_delay_sees_each_parameter(void)
+{
+    static const size_t lengths[6][3] = {{7, 4, 4}, {9, 4, 4}, {8, 3, 4}, {8, 5, 4}, {8, 4, 3}, {8, 4, 5}};
+    KafsillunLowDelay p = picture;
+    int32_t planes[3][9];
+    int i;
+
+    /* From the last check to the first: each comes before those above it. */
+    for (i = 0; i < 6; i++) {
+        const size_t *length = lengths[i];
+
+        expect_answer(kafsillun_unpack_low_delay(p, slices, 9, planes[0], length[0], planes[1], length[1], planes[2], length[2]), 5, 0,
+                      "unpack_low_delay: lengths");
+    }
+    expect_answer(kafsillun_unpack_low_delay(p, slices, 9, NULL, 0, NULL, 0, NULL, 0), 5, 0, "unpack_low_delay: no planes");
+    p.luma_width = 5;
+    unpack_low_delay_owes(p, slices, 9, 5, 0, "unpack_low_delay: luma width");
+    p.luma_width = 4;
+    p.luma_height = 3;
+    unpack_low_delay_owes(p, slices, 9, 5, 0, "unpack_low_delay: luma height");
+    p.luma_height = 2;
+    p.chroma_width = 3;
+    unpack_low_delay_owes(p, slices, 9, 5, 0, "unpack_low_delay: chroma width");
+    p.chroma_width = 2;
+    p.chroma_height = 3;
+    unpack_low_delay_owes(p, slices, 9, 5, 0, "unpack_low_delay: chroma height");
+    for (i = 0; i < 4; i++) {
+        p.matrix[i] = 128;
+        unpack_low_delay_owes(p, slices, 9, 13, 0, "unpack_low_delay: matrix entry");
+        p.matrix[i] = 127;
+    }
+    p.denominator = 10;
+    unpack_low_delay_owes(p, slices, 9, 13, 0, "unpack_low_delay: numerator below the denominator");
+    p.denominator = 0;
+    unpack_low_delay_owes(p, slices, 9, 13, 0, "unpack_low_delay: denominator");
+    p.denominator = 1;
+    p.numerator = 65536;
+    unpack_low_delay_owes(p, slices, 9, 13, 0, "unpack_low_delay: numerator");
+    p.numerator = 1;
+    p.slices_down = 256;
+    unpack_low_delay_owes(p, slices, 9, 13, 0, "unpack_low_delay: slices down");
+    p.slices_down = 1;
+    p.slices_across = 0;
+    unpack_low_delay_owes(p, slices, 9, 13, 0, "unpack_low_delay: slices across");
+    p.depth = 5;
+    unpack_low_delay_owes(p, slices, 9, 2, 0, "unpack_low_delay: depth");
+    p.chroma_height = 4097;
+    unpack_low_delay_owes(p, slices, 9, 1, 0, "unpack_low_delay: 1");
+}
+
+/* What was unpacked is passed on with the size of its component. */
+static void components_of_a_picture_are_synthesised(void)
+{
+    int32_t luma[8], first[4], second[4], work[8], samples[8];
+
+    expect_answer(kafsillun_unpack_low_delay(picture, slices, 9, luma, 8, first, 4, second, 4), 0, 9, "a picture: unpacked");
+    expect_answer(kafsillun_synthesise(plain(4, 2, 1, 3), luma, 8, work, 8, samples, 8), 0, 0, "a picture: luma");
+    expect(samples[0] == 7 && samples[3] == 2 && samples[4] == 6 && samples[7] == 4, "a picture: samples of luma");
+    expect_answer(kafsillun_synthesise(plain(2, 2, 1, 3), first, 4, work, 4, samples, 4), 0, 0, "a picture: C1");
+    expect(all(samples, 4, 1), "a picture: samples of C1");
+    expect_answer(kafsillun_synthesise(plain(2, 2, 1, 3), second, 4, work, 4, samples, 4), 0, 0, "a picture: C2");
+    expect(samples[0] == -3 && samples[1] == 1 && samples[2] == -3 && samples[3] == 1, "a picture: samples of C2");
+}
+
 static void *decode_in_thread(void *argument)
 {
     Turn *turn = (Turn *)argument;
@@ -359,17 +492,38 @@ static void *decode_in_thread(void *argument)
     return NULL;
 }
 
+static void *unpack_low_delay_in_thread(void *argument)
+{
+    Turn *turn = (Turn *)argument;
+    int i;
+
+    for (i = 0; i < 1000; i++) {
+        int32_t luma[8], first[4], second[4];
+        KafsillunAnswer answer = kafsillun_unpack_low_delay(picture, slices, 9, luma, 8, first, 4, second, 4);
+
+        if (answer.status != 0 || answer.place != 9 || memcmp(luma, of_picture[0], sizeof luma) != 0
+            || memcmp(first, of_picture[1], sizeof first) != 0 || memcmp(second, of_picture[2], sizeof second) != 0) {
+            turn->fine = 0;
+        }
+    }
+    return NULL;
+}
+
 #endif
 
 int main(void)
 {
     synthesise_sees_each_parameter();
-    threads_agree(synthesise_in_thread, "synthesise: threads");
+    threads_agree(synthesise_in_thread, 48, "synthesise: threads");
 #ifndef KAFSILLUN_SYNTHESISE_ONLY
     unpack_sees_each_parameter();
     decode_gives_each_status();
     decode_sees_each_length();
-    threads_agree(decode_in_thread, "decode: threads");
+    threads_agree(decode_in_thread, 48, "decode: threads");
+    unpack_low_delay_gives_each_status();
+    unpack_low_delay_sees_each_parameter();
+    components_of_a_picture_are_synthesised();
+    threads_agree(unpack_low_delay_in_thread, 64, "unpack_low_delay: threads");
 #endif
     printf("%d passed, %d failed\n", passed, failed);
     return failed != 0;

@@ -1,7 +1,7 @@
 //! What is measured: components made by the reference's encoder.
 
 use crate::picture;
-use ffmpeg::stream::{BitDepth, Stream, COMPONENTS};
+use ffmpeg::stream::{BitDepth, Format, Stream, COMPONENTS};
 use reference::encode::{encode_body, quantise_plane, EncodeOptions, Rounding, SubbandOptions};
 use reference::params::{sample_area, subbands};
 use reference::Parameters;
@@ -198,7 +198,7 @@ impl Component {
     /// where the picture's number stands.
     pub fn packet(&self) -> (Vec<u8>, usize) {
         let p = &self.parameters;
-        let mut stream = Stream::new(p.width, p.height, BitDepth::Eight);
+        let mut stream = Stream::new(Format::full(p.width, p.height, BitDepth::Eight));
         let number_offset = stream.add_picture(0, p, [&self.body; COMPONENTS]);
         (stream.bytes(), number_offset)
     }

@@ -44,6 +44,25 @@ impl Jobs {
 }
 
 impl Speeds {
+    /// The speeds of all that took turns: the library's three jobs, the reference's if it took part, and then
+    /// libavcodec, if it is there.
+    pub fn of(timed: &[Timed], with_reference: bool) -> Speeds {
+        let mut speeds = timed.iter().map(Timed::megasamples);
+        let mut jobs = || Jobs {
+            unpack: speeds.next().expect("a job"),
+            synthesise: speeds.next().expect("a job"),
+            decode: speeds.next().expect("a job"),
+        };
+        let proved = jobs();
+        let reference = with_reference.then(jobs);
+        let libavcodec: Vec<f64> = speeds.collect();
+        Speeds {
+            proved,
+            reference,
+            libavcodec: libavcodec.try_into().ok(),
+        }
+    }
+
     /// The best of each.
     pub fn best(self, other: Speeds) -> Speeds {
         let references = self.reference.zip(other.reference);
@@ -162,13 +181,19 @@ fn status<T>(result: Result<T, kafsillun::Error>) -> u32 {
     result.map_or_else(|error| error.number(), |_| 0)
 }
 
-/// libavcodec with SIMD code and in plain C, if it is installed. It takes no part where a component is not
-/// intra: it would add the prediction from a reference picture, too, which no one else does.
+/// libavcodec with SIMD code and in plain C on a component, if it is installed. It takes no part where that is
+/// not intra: it would add the prediction from a reference picture, too, which no one else does.
 fn open_libavcodec(component: &Component) -> Vec<Libavcodec> {
-    if !component.parameters.intra {
-        return Vec::new();
+    if component.parameters.intra {
+        open_on_packet(component.packet())
+    } else {
+        Vec::new()
     }
-    let (packet, number_offset) = component.packet();
+}
+
+/// libavcodec with SIMD code and in plain C, if it is installed, on a packet whose picture number stands at an
+/// offset.
+pub fn open_on_packet((packet, number_offset): (Vec<u8>, usize)) -> Vec<Libavcodec> {
     [true, false]
         .into_iter()
         .filter_map(|simd| Libavcodec::new(&packet, number_offset, simd))
@@ -240,20 +265,7 @@ pub fn measure(component: &Component, effort: Effort) -> Speeds {
         ));
     }
     take_turns(&mut timed);
-    let mut speeds = timed.iter().map(Timed::megasamples);
-    let mut jobs = || Jobs {
-        unpack: speeds.next().expect("a job"),
-        synthesise: speeds.next().expect("a job"),
-        decode: speeds.next().expect("a job"),
-    };
-    let proved = jobs();
-    let reference = (effort.reference_rounds > 0).then(jobs);
-    let libavcodec: Vec<f64> = speeds.collect();
-    Speeds {
-        proved,
-        reference,
-        libavcodec: libavcodec.try_into().ok(),
-    }
+    Speeds::of(&timed, effort.reference_rounds > 0)
 }
 
 /// Each of a decoder's jobs with planes of its own, the coefficients unpacked. A turn is a picture of so

@@ -8,6 +8,7 @@
 
 #include <libavcodec/avcodec.h>
 #include <libavutil/cpu.h>
+#include <libavutil/pixdesc.h>
 
 typedef struct BenchDecoder {
     AVCodecContext *context;
@@ -74,11 +75,20 @@ int bench_decode(BenchDecoder *decoder)
     return error < 0 ? error : avcodec_receive_frame(decoder->context, decoder->frame);
 }
 
-/* The last picture's samples of a component, as libavcodec gives them; answers 0, or -1 if the picture has another size or format. */
+/* Whether a picture has samples of 8 bits. */
+static int is_of_bytes(const AVFrame *frame)
+{
+    return frame->format == AV_PIX_FMT_YUV444P || frame->format == AV_PIX_FMT_YUV422P || frame->format == AV_PIX_FMT_YUV420P;
+}
+
+/* The last picture's samples of a component, as libavcodec gives them; answers 0, or -1 if the component has another size or format. */
 int bench_samples(const BenchDecoder *decoder, int component, int width, int height, int32_t *samples)
 {
     const AVFrame *frame = decoder->frame;
-    if (frame->width != width || frame->height != height || frame->format != AV_PIX_FMT_YUV444P)
+    int across = 0, down = 0;
+    if (!is_of_bytes(frame) || (component > 0 && av_pix_fmt_get_chroma_sub_sample(frame->format, &across, &down) < 0))
+        return -1;
+    if (frame->width >> across != width || frame->height >> down != height)
         return -1;
     for (int y = 0; y < height; y++) {
         const uint8_t *row = frame->data[component] + (ptrdiff_t)y * frame->linesize[component];

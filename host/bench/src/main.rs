@@ -1,9 +1,11 @@
 //! The command: measures, and prints the tables.
 
 use bench::decoders::Effort;
-use bench::instructions::{valgrind_version, CountReport, Counts, PROGRAM};
+use bench::instructions::{
+    valgrind_version, CountReport, Counts, SliceCountReport, SliceCounts, PROGRAM, SLICES_PROGRAM,
+};
 use bench::libavcodec::Libavcodec;
-use bench::tables::{components, counted_components, Tables};
+use bench::tables::{components, counted_components, counted_slices, low_delay_pictures, Tables};
 use std::process::ExitCode;
 use std::time::Instant;
 use vectors::command_line;
@@ -14,13 +16,13 @@ const USAGE: &str = "usage: bench [--quick]
 Measures unpack, synthesise and decode of the proved library on components of 1920 x
 1080 samples and of other sizes, beside the independent decoder and, where FFmpeg's
 libraries were found when this was built, libavcodec; then unpack and decode of one to
-many codeblocks, synthesise on large numbers, and calls that are refused. All are
-checked to give the same samples first. They run in turn on one thread; the processor
+many codeblocks, low delay pictures, synthesise on large numbers, and calls that are
+refused. All are checked to give the same samples first. They run in turn on one thread; the processor
 time of the best run counts. With --quick there are few runs, and the figures are rough.
 
 With --instructions valgrind counts the instructions of each job instead, on components
-of 480 x 270 samples, one of them not intra and three with one to many codeblocks, and
-on a small one.
+of 480 x 270 samples, one of them not intra and three with one to many codeblocks, on
+a small one, and on low delay pictures.
 
 docs/BENCHMARK.md says how to read the tables.
 
@@ -68,7 +70,8 @@ fn processor() -> String {
 fn run(passes: Passes) -> Result<(), String> {
     let start = Instant::now();
     let components = components()?;
-    let mut tables = Tables::new(&components)?;
+    let pictures = low_delay_pictures()?;
+    let mut tables = Tables::new(&components, &pictures)?;
     for pass in 1..=passes.count {
         eprintln!("measuring: pass {pass} of {}", passes.count);
         tables.pass(passes.effort);
@@ -86,7 +89,7 @@ fn run(passes: Passes) -> Result<(), String> {
     Ok(())
 }
 
-/// Counts the instructions of each wavelet at each rate, and of codeblocks, and prints the table.
+/// Counts the instructions of each wavelet at each rate, of codeblocks and of slices, and prints the tables.
 fn count_instructions(valgrind: &str) -> Result<(), String> {
     let this = std::env::current_exe().map_err(|error| error.to_string())?;
     let program = this.with_file_name(PROGRAM);
@@ -97,8 +100,15 @@ fn count_instructions(valgrind: &str) -> Result<(), String> {
         eprintln!("counting: wavelet {wavelet}, index {index}, codeblocks {codeblocks}");
         rows.push(Counts::of(&component, &program)?);
     }
+    let program = this.with_file_name(SLICES_PROGRAM);
+    let mut slice_rows = Vec::new();
+    for sliced in counted_slices()? {
+        eprintln!("counting: {sliced}");
+        slice_rows.push(SliceCounts::of(&sliced, &program)?);
+    }
     println!("Counted by {valgrind}, callgrind.\n");
     print!("{}", CountReport(rows));
+    print!("\n{}", SliceCountReport(slice_rows));
     Ok(())
 }
 

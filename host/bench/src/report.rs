@@ -5,6 +5,7 @@ use crate::components::Component;
 use crate::decoders::{libavcodec_agrees, Speeds};
 use crate::exact::{ExactTimes, LargeAndSmall};
 use crate::refusals::Call;
+use crate::slices::Sliced;
 use std::fmt::{self, Display, Formatter};
 
 /// The columns that name a component.
@@ -42,6 +43,65 @@ impl Row {
             speeds,
         }
     }
+
+    /// The row of a low delay picture.
+    pub fn of_slices(sliced: &Sliced, speeds: Speeds) -> Row {
+        Row {
+            head: slice_head_cells(sliced),
+            wavelet: sliced.picture.wavelet,
+            intra: true,
+            speeds,
+        }
+    }
+}
+
+/// The columns that name a low delay picture.
+pub const SLICE_HEAD: [&str; 7] = [
+    "size",
+    "chroma",
+    "depth",
+    "wavelet",
+    "a slice",
+    "slices",
+    "bits a sample",
+];
+
+/// The cells that name a low delay picture.
+pub fn slice_head_cells(sliced: &Sliced) -> Vec<String> {
+    let plan = &sliced.plan;
+    vec![
+        format!("{} x {}", plan.size.0, plan.size.1),
+        plan.chroma.name().to_string(),
+        plan.depth.to_string(),
+        sliced.picture.wavelet.to_string(),
+        format!("{} x {}", plan.slice.0, plan.slice.1),
+        sliced.slices(),
+        format!("{:.2}", sliced.bits_a_sample()),
+    ]
+}
+
+/// Unpack of a picture in slices, beside unpack of the same numbers in one.
+pub struct GrowthRow {
+    cells: [String; 3],
+    nanoseconds: f64,
+    one: f64,
+}
+
+impl GrowthRow {
+    /// The row of a picture, whose time is given with that of one slice.
+    pub fn new(sliced: &Sliced, nanoseconds: f64, one: f64) -> GrowthRow {
+        let p = &sliced.picture.parameters;
+        let samples_of_slice = sliced.samples() / p.slice_count();
+        GrowthRow {
+            cells: [
+                sliced.slices(),
+                samples_of_slice.to_string(),
+                p.numerator.to_string(),
+            ],
+            nanoseconds,
+            one,
+        }
+    }
 }
 
 /// The rows of all tables.
@@ -54,6 +114,10 @@ pub struct Report {
     pub rates: Vec<Row>,
     /// One wavelet at one size and index, from one codeblock to many.
     pub codeblocks: Vec<CodeblockRow>,
+    /// Low delay pictures.
+    pub slices: Vec<Row>,
+    /// One low delay picture, from one slice to many.
+    pub growth: Vec<GrowthRow>,
     pub exact: Vec<ExactRow>,
     pub refusals: Vec<RefusalRow>,
 }
@@ -149,6 +213,15 @@ const CODEBLOCKS: [&str; 5] = [
     "zero codeblocks",
     "unpack",
     "decode",
+    "unpack / unpack of 1 x 1",
+];
+
+/// The columns of the table of ever more slices.
+const GROWTH: [&str; 5] = [
+    "slices",
+    "samples a slice",
+    "bytes a slice",
+    "unpack",
     "unpack / unpack of 1 x 1",
 ];
 
@@ -256,6 +329,15 @@ fn codeblock_cells(row: &CodeblockRow) -> Vec<String> {
     [&row.head[..], &figures].concat()
 }
 
+/// The cells of a row of ever more slices.
+fn growth_cells(row: &GrowthRow) -> Vec<String> {
+    let figures = [
+        time_figure(row.nanoseconds),
+        figure(row.nanoseconds / row.one),
+    ];
+    [&row.cells[..], &figures].concat()
+}
+
 /// The cells of a row of large numbers.
 fn exact_cells(row: &ExactRow) -> Vec<String> {
     let [largest, largest_small] = row.largest;
@@ -306,16 +388,20 @@ pub fn write_table<R>(
     Ok(())
 }
 
-/// Writes a table of components: its columns and cells come after those that name a row.
-fn write_components(
+/// The columns of a table of components: those that name a row, and then these.
+fn with_head(columns: &[&'static str]) -> Vec<&'static str> {
+    [&HEAD, columns].concat()
+}
+
+/// Writes a table of rows: their cells come after those that name a row.
+fn write_rows(
     f: &mut Formatter,
     title: &str,
     rows: &[Row],
     columns: &[&str],
     cells: fn(&Row) -> Vec<String>,
 ) -> fmt::Result {
-    let columns = [&HEAD, columns].concat();
-    write_table(f, title, &columns, rows, |row| {
+    write_table(f, title, columns, rows, |row| {
         [row.head.clone(), cells(row)].concat()
     })
 }
@@ -324,19 +410,48 @@ impl Display for Report {
     fn fmt(&self, f: &mut Formatter) -> fmt::Result {
         let title = "Megasamples a second, and ratios of decode.\n\
             An asterisk: its samples are not document 01's, so they were not checked.";
-        write_components(f, title, &self.wavelets, &DECODERS, decoder_cells)?;
+        write_rows(
+            f,
+            title,
+            &self.wavelets,
+            &with_head(&DECODERS),
+            decoder_cells,
+        )?;
         let title = "\nThe reference beside it, and ratios of the other jobs.";
-        write_components(f, title, &self.wavelets, &REFERENCE_JOBS, reference_cells)?;
+        write_rows(
+            f,
+            title,
+            &self.wavelets,
+            &with_head(&REFERENCE_JOBS),
+            reference_cells,
+        )?;
         let title = "\nEach job alone: nanoseconds a sample.";
-        write_components(f, title, &self.wavelets, &TIMES, time_cells)?;
+        write_rows(f, title, &self.wavelets, &with_head(&TIMES), time_cells)?;
         let beside = [TIMES, TIMES_BESIDE].concat();
         let title = "\nFrom small pictures to large ones: nanoseconds a sample.";
-        write_components(f, title, &self.sizes, &beside, time_cells_beside)?;
+        write_rows(
+            f,
+            title,
+            &self.sizes,
+            &with_head(&beside),
+            time_cells_beside,
+        )?;
         let title = "\nFrom few bits to many: nanoseconds a sample.";
-        write_components(f, title, &self.rates, &beside, time_cells_beside)?;
-        let columns = [&HEAD[..], &CODEBLOCKS].concat();
+        write_rows(
+            f,
+            title,
+            &self.rates,
+            &with_head(&beside),
+            time_cells_beside,
+        )?;
+        let columns = with_head(&CODEBLOCKS);
         let title = "\nMany codeblocks at every level: nanoseconds a sample.";
         write_table(f, title, &columns, &self.codeblocks, codeblock_cells)?;
+        let title = "\nLow delay pictures, all three components: nanoseconds a sample.";
+        let columns = [&SLICE_HEAD[..], &beside].concat();
+        write_rows(f, title, &self.slices, &columns, time_cells_beside)?;
+        let title = "\nThe same numbers in ever more slices: nanoseconds a sample.";
+        write_table(f, title, &GROWTH, &self.growth, growth_cells)?;
         let title = "\nSynthesise of large numbers, beside small ones: nanoseconds a sample.";
         write_table(f, title, &EXACT, &self.exact, exact_cells)?;
         let title = "\nWhat a refusal costs.";

@@ -9,7 +9,8 @@ use crate::components::{
 use crate::decoders::{check, measure, Effort, Speeds};
 use crate::exact::{ExactTimes, LargeAndSmall};
 use crate::refusals::{self, Call};
-use crate::report::{CodeblockRow, ExactRow, RefusalRow, Report, Row};
+use crate::report::{CodeblockRow, ExactRow, GrowthRow, RefusalRow, Report, Row};
+use crate::slices::{self, counted_plans, full_plans, growing, SlicePlan, Sliced};
 
 /// The components of a plan, checked; or which decoders differ on one. The reference's other jobs are
 /// checked if asked to.
@@ -83,6 +84,34 @@ pub fn components() -> Result<Vec<Component>, String> {
     Ok(components)
 }
 
+/// The low delay pictures of plans, checked; or which decoders differ on one.
+fn checked_slices(plans: &[SlicePlan]) -> Result<Vec<Sliced>, String> {
+    eprintln!("encoding and checking: {} low delay pictures", plans.len());
+    let pictures = Sliced::of(plans)?;
+    pictures.iter().try_for_each(slices::check)?;
+    Ok(pictures)
+}
+
+/// The low delay pictures whose instructions are counted, or which decoders differ on one.
+pub fn counted_slices() -> Result<Vec<Sliced>, String> {
+    checked_slices(&counted_plans())
+}
+
+/// The low delay pictures of the tables.
+pub struct LowDelayPictures {
+    pub full: Vec<Sliced>,
+    /// The first has one slice.
+    pub growing: Vec<Sliced>,
+}
+
+/// The low delay pictures of the tables, or which decoders differ on one.
+pub fn low_delay_pictures() -> Result<LowDelayPictures, String> {
+    let full = checked_slices(&full_plans())?;
+    let growing = growing(COUNTED_SIZE);
+    slices::check_growth(&growing)?;
+    Ok(LowDelayPictures { full, growing })
+}
+
 /// Whether a component is one of the tables of wavelets, which have the reference beside the others.
 fn is_of_wavelets(component: &Component) -> bool {
     component.size() == FULL_SIZE && RATES.contains(&component.rate)
@@ -117,6 +146,10 @@ pub struct Tables<'a> {
     timed: Vec<(&'a Component, Option<Speeds>)>,
     /// The first has one codeblock.
     codeblocks: Vec<(&'a Component, Option<CodeblockTimes>)>,
+    slices: Vec<(&'a Sliced, Option<Speeds>)>,
+    growing: &'a [Sliced],
+    /// For each of these.
+    growth: Vec<Option<f64>>,
     exact: Vec<(LargeAndSmall<'a>, Option<ExactTimes>)>,
     refusals: Vec<(Call, Option<f64>)>,
 }
@@ -126,9 +159,12 @@ fn keep_best<T: Copy>(best: &mut Option<T>, now: T, better: impl Fn(T, T) -> T) 
     *best = Some(best.map_or(now, |before| better(before, now)));
 }
 
-impl Tables<'_> {
-    /// The tables of all components, or which decoders differ.
-    pub fn new(components: &[Component]) -> Result<Tables<'_>, String> {
+impl<'a> Tables<'a> {
+    /// The tables of all components and low delay pictures, or which decoders differ.
+    pub fn new(
+        components: &'a [Component],
+        pictures: &'a LowDelayPictures,
+    ) -> Result<Tables<'a>, String> {
         eprintln!("checking large numbers and refusals");
         let mut exact = Vec::new();
         let mut refusals = Vec::new();
@@ -144,6 +180,9 @@ impl Tables<'_> {
         Ok(Tables {
             timed: timed.into_iter().map(|m| (m, None)).collect(),
             codeblocks: codeblocks.into_iter().map(|m| (m, None)).collect(),
+            slices: pictures.full.iter().map(|m| (m, None)).collect(),
+            growing: &pictures.growing,
+            growth: vec![None; pictures.growing.len()],
             exact,
             refusals: refusals.into_iter().map(|call| (call, None)).collect(),
         })
@@ -164,6 +203,13 @@ impl Tables<'_> {
             keep_best(best, measure(component, effort), Speeds::best);
         }
         self.measure_codeblocks(effort);
+        for (sliced, best) in &mut self.slices {
+            keep_best(best, slices::measure(sliced, effort), Speeds::best);
+        }
+        let growth = slices::measure_growth(self.growing, effort);
+        for (best, time) in self.growth.iter_mut().zip(growth) {
+            keep_best(best, time, f64::min);
+        }
         for (both, best) in &mut self.exact {
             keep_best(best, both.measure(effort), ExactTimes::best);
         }
@@ -204,8 +250,17 @@ impl Tables<'_> {
             .collect()
     }
 
+    /// The rows of the table of ever more slices.
+    fn growth_rows(&self) -> Vec<GrowthRow> {
+        let times: Vec<f64> = self.growth.iter().map(|t| t.expect("a pass")).collect();
+        let rows = self.growing.iter().zip(&times);
+        rows.map(|(sliced, &time)| GrowthRow::new(sliced, time, times[0]))
+            .collect()
+    }
+
     /// The report after the last pass.
     pub fn to_report(&self) -> Report {
+        let slices = self.slices.iter();
         let exact = self.exact.iter();
         let refusals = self.refusals.iter();
         Report {
@@ -213,6 +268,10 @@ impl Tables<'_> {
             sizes: self.rows(is_of_sizes, Component::samples),
             rates: self.rows(is_of_rates, |component| component.body.len()),
             codeblocks: self.codeblock_rows(),
+            slices: slices
+                .map(|(sliced, speeds)| Row::of_slices(sliced, speeds.expect("a pass")))
+                .collect(),
+            growth: self.growth_rows(),
             exact: exact
                 .map(|(both, times)| ExactRow::new(both, times.expect("a pass")))
                 .collect(),

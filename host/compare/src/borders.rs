@@ -122,24 +122,25 @@ pub fn body_of_bands(
 /// A body of short codes with runs of zeros between them.
 pub fn runs_body(random: &mut Random, p: &Parameters) -> Body {
     let index = |random: &mut Random| random.range(0, 40) as u32;
-    body_of_runs(random, p, index, |random| {
-        let bits = random.pick(&[4, 4, 6, 6, 8, 8, 10, 12]);
-        number_of_code(random, bits)
-    })
+    body_of_runs(random, p, index, short_number)
+}
+
+/// A number with a short code.
+pub fn short_number(random: &mut Random) -> i64 {
+    let bits = random.pick(&[4, 4, 6, 6, 8, 8, 10, 12]);
+    number_of_code(random, bits)
 }
 
 /// A body of codes of every length.
 pub fn codes_body(random: &mut Random, p: &Parameters) -> Body {
-    body_of_runs(
-        random,
-        p,
-        |_| 0,
-        |random| {
-            let any = 2 * random.range(2, LONGEST_CODE / 2);
-            let bits = random.pick(&[any, any, 8, 10, 62, 64]);
-            number_of_code(random, bits)
-        },
-    )
+    body_of_runs(random, p, |_| 0, number_of_any_code)
+}
+
+/// A number with a code of any length.
+pub fn number_of_any_code(random: &mut Random) -> i64 {
+    let any = 2 * random.range(2, LONGEST_CODE / 2);
+    let bits = random.pick(&[any, any, 8, 10, 62, 64]);
+    number_of_code(random, bits)
 }
 
 /// Fills a subband with runs of zeros and large numbers between them. One that is predicted most often has

@@ -105,7 +105,7 @@ impl Case {
     /// The case that a seed names.
     pub fn from_seed(seed: u64) -> Case {
         let mut random = Random::new(seed);
-        let kind = random_kind(&mut random);
+        let kind = kind_by_share(&mut random, &SHARES);
         let least_depth = match kind {
             // So that refusal 10 is as frequent at the high levels.
             Kind::Extreme | Kind::Sized => random.range(1, 4) as u32,
@@ -167,14 +167,7 @@ impl Case {
         let intra = u8::from(p.intra);
         let length = self.coefficients.len();
         let lengths = format!("{} {}", self.work_length, self.samples_length);
-        let mut bytes: String = self
-            .bytes
-            .iter()
-            .map(|byte| format!("{byte:02x}"))
-            .collect();
-        if bytes.is_empty() {
-            bytes.push('-');
-        }
+        let bytes = hex(&self.bytes);
         let coefficients: String = self.coefficients.iter().map(|c| format!(" {c}")).collect();
         format!(
             "unpack {sizes} {intra}{counts} {length} {bytes}\n\
@@ -184,10 +177,18 @@ impl Case {
     }
 }
 
-/// A kind by its share.
-fn random_kind(random: &mut Random) -> Kind {
+/// Bytes in hexadecimal, as a job of the reference's command has them; none are a dash.
+pub fn hex(bytes: &[u8]) -> String {
+    if bytes.is_empty() {
+        return "-".to_string();
+    }
+    bytes.iter().map(|byte| format!("{byte:02x}")).collect()
+}
+
+/// A kind by its share of a hundred.
+pub fn kind_by_share<K: Copy>(random: &mut Random, shares: &[(K, u32)]) -> K {
     let mut rest = random.range(0, 99) as u32;
-    for (kind, share) in SHARES {
+    for &(kind, share) in shares {
         if rest < share {
             return kind;
         }

@@ -95,6 +95,11 @@ pub fn proved(p: &Parameters, job: Job, buffers: Buffers) -> Answer {
             buffers.samples,
         ),
     };
+    answer_of(result)
+}
+
+/// The answer that a result of the proved library stands for.
+pub fn answer_of(result: Result<usize, kafsillun::Error>) -> Answer {
     match result {
         Ok(used) => Answer::accepted(used as u64),
         Err(error) => Answer::refused(error.number(), error.place() as u64),
@@ -167,7 +172,7 @@ impl Memory {
 }
 
 /// The first difference between a plane of a decoder and the reference's.
-fn difference_in<T: Entry + PartialEq + fmt::Display>(
+pub fn difference_in<T: Entry + PartialEq + fmt::Display>(
     name: &str,
     ours: &Guarded<T>,
     theirs: &Guarded<T>,
@@ -184,6 +189,16 @@ fn difference_in<T: Entry + PartialEq + fmt::Display>(
     ))
 }
 
+/// The difference between an answer and the reference's.
+pub fn answers_differ(ours: Answer, theirs: Answer) -> Option<String> {
+    (ours != theirs).then(|| {
+        format!(
+            "the answer is status {} place {}, the reference's status {} place {}",
+            ours.status, ours.place, theirs.status, theirs.place
+        )
+    })
+}
+
 /// Runs one job in a decoder and the reference, over the same rubbish: the answer that both gave.
 fn check_job(
     case: &Case,
@@ -196,14 +211,7 @@ fn check_job(
     let mut theirs = ours.clone();
     let our_answer = decoder(p, job, ours.parts());
     let their_answer = reference(p, job, theirs.parts());
-    if our_answer != their_answer {
-        let what = format!(
-            "the answer is status {} place {}, the reference's status {} place {}",
-            our_answer.status, our_answer.place, their_answer.status, their_answer.place
-        );
-        return Err(Difference { job, what });
-    }
-    match ours.first_difference(&theirs) {
+    match answers_differ(our_answer, their_answer).or_else(|| ours.first_difference(&theirs)) {
         Some(what) => Err(Difference { job, what }),
         None => Ok(our_answer),
     }

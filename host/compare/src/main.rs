@@ -1,10 +1,11 @@
-//! The command: compares a great many components or recordings, or makes round trips.
+//! The command: compares a great many components, pictures or recordings, or makes round trips.
 
 use compare::round_trip::{RoundTrip, RoundTrips};
 use compare::work::{Failure, Tally, Work, ENOUGH_FAILURES};
 use compare::{
-    check, check_recording, proved, reference, results, Case, Job, Program, Recording,
-    RecordingStatistics, Statistics,
+    check, check_low_delay, check_recording, low_delay_result, proved, proved_low_delay, reference,
+    reference_low_delay, results, Case, Job, LowDelayCase, LowDelayStatistics, Outcome, Program,
+    Recording, RecordingStatistics, Statistics,
 };
 use reference::read_recording;
 use std::fmt::Display;
@@ -15,6 +16,7 @@ use vectors::command_line;
 
 const USAGE: &str = "usage: compare COUNT [SEED] [--threads N]
        compare --seed SEED --count COUNT [--threads N]
+       compare --low-delay COUNT [SEED] [--threads N]
        compare --round-trips COUNT [SEED] [--threads N]
        compare --recordings COUNT [SEED] [--threads N] --program PATH
 
@@ -23,6 +25,10 @@ from the seeds SEED, SEED + 1 and on: unpack, synthesise and decode, status, pla
 every entry of every plane, and the memory around them. SEED is 1 where none is
 given. A COUNT of 1 prints the component in full, as jobs that `reference jobs`
 answers.
+
+With --low-delay it compares them on COUNT pictures of low delay slices: status, place,
+every entry of the planes of luma, C1 and C2, and the memory around them. A COUNT of 1
+prints the picture in full, as a job that `reference jobs` answers.
 
 With --round-trips the independent decoder analyses COUNT planes, and the proved
 library must give each back whose analysis fits 32 bits.
@@ -33,13 +39,14 @@ nothing on its standard error. A COUNT of 1 prints the recording in hexadecimal,
 which `xxd -r -p` turns into a file, and what is written for it.
 
 Exit status: 0 no difference; 1 a difference, or an answer or a place of it that
-fewer than one in 1000 components gave (one in 500 round trips or entries of
-recordings), too rare to mean anything; 2 a wrong command line.
+fewer than one in 1000 components or pictures gave (one in 500 round trips or entries
+of recordings), too rare to mean anything; 2 a wrong command line.
 ";
 
 /// What is compared.
 enum Subject {
     Components,
+    LowDelay,
     RoundTrips,
     Recordings(Program),
 }
@@ -57,7 +64,7 @@ fn read_request(words: &[&str]) -> Result<Request, String> {
     let mut words = words.iter();
     while let Some(&word) = words.next() {
         let (slot, value) = match word {
-            "--round-trips" | "--recordings" => {
+            "--low-delay" | "--round-trips" | "--recordings" => {
                 put(&mut subject, word)?;
                 continue;
             }
@@ -93,6 +100,7 @@ fn put<T: Copy + Display>(slot: &mut Option<T>, value: T) -> Result<(), String> 
 fn read_subject(option: Option<&str>, program: Option<&str>) -> Result<Subject, String> {
     match (option, program) {
         (None, None) => Ok(Subject::Components),
+        (Some("--low-delay"), None) => Ok(Subject::LowDelay),
         (Some("--round-trips"), None) => Ok(Subject::RoundTrips),
         (Some("--recordings"), Some(path)) if Path::new(path).is_file() => {
             Ok(Subject::Recordings(Program::new(path)))
@@ -125,6 +133,7 @@ fn main() -> ExitCode {
     let Request { subject, work } = request;
     let passed = match subject {
         Subject::Components => compare_components(&work),
+        Subject::LowDelay => compare_pictures(&work),
         Subject::RoundTrips => make_round_trips(&work),
         Subject::Recordings(program) => compare_recordings(&work, &program),
     };
@@ -145,6 +154,23 @@ fn compare_components(work: &Work) -> bool {
         statistics.add(&answers);
         Ok(())
     })
+}
+
+/// Compares pictures of low delay slices and prints what they reached; answers whether all is well.
+fn compare_pictures(work: &Work) -> bool {
+    if work.count == 1 {
+        print_picture(&LowDelayCase::from_seed(work.first));
+    }
+    run_all(
+        work,
+        "pictures",
+        |seed, reached: &mut LowDelayStatistics| {
+            let case = LowDelayCase::from_seed(seed);
+            let answer = check_low_delay(&case, proved_low_delay)?;
+            reached.add(&case, &answer);
+            Ok(())
+        },
+    )
 }
 
 /// Makes round trips and prints what they reached; answers whether all is well.
@@ -226,15 +252,31 @@ fn verdict(failures: &[Failure], too_rare: &[String]) -> String {
 fn print_case(case: &Case) {
     println!("seed {}, kind {:?}", case.seed, case.kind);
     print!("{}", case.jobs());
-    let ours = results(case, proved).map(|result| result.to_string());
-    let theirs = results(case, reference).map(|result| result.to_string());
-    for ((job, ours), theirs) in Job::ALL.iter().zip(ours).zip(theirs) {
-        print!("{} in the proved library: {ours}", job.name());
-        if ours == theirs {
-            println!("{} in the reference: the same", job.name());
-        } else {
-            print!("{} in the reference: {theirs}", job.name());
-        }
+    let (ours, theirs) = (results(case, proved), results(case, reference));
+    for ((job, ours), theirs) in Job::ALL.iter().zip(&ours).zip(&theirs) {
+        print_outcomes(job.name(), ours, theirs);
+    }
+}
+
+/// Prints a picture in full: as a job of the reference's command, and what each decoder makes of it.
+fn print_picture(case: &LowDelayCase) {
+    println!("seed {}, kind {:?}", case.seed, case.kind);
+    print!("{}", case.job_text());
+    let ours = low_delay_result(case, proved_low_delay);
+    print_outcomes(
+        "low_delay",
+        &ours,
+        &low_delay_result(case, reference_low_delay),
+    );
+}
+
+/// Prints what the proved library and the reference give for a job.
+fn print_outcomes(job: &str, ours: &Outcome, theirs: &Outcome) {
+    print!("{job} in the proved library: {ours}");
+    if ours == theirs {
+        println!("{job} in the reference: the same");
+    } else {
+        print!("{job} in the reference: {theirs}");
     }
 }
 

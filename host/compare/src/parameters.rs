@@ -119,7 +119,7 @@ fn codeblocks(p: &Parameters) -> usize {
 }
 
 /// A width or height from 1 to 70.
-fn random_size(random: &mut Random) -> u32 {
+pub fn random_size(random: &mut Random) -> u32 {
     let most = match random.range(0, 99) {
         0..=39 => 8,
         40..=69 => 20,
@@ -129,8 +129,8 @@ fn random_size(random: &mut Random) -> u32 {
     random.range(1, most) as u32
 }
 
-/// A codeblock count for subbands of a size: most often few, sometimes more than the size, rarely any.
-fn random_count(random: &mut Random, size: usize) -> u32 {
+/// A count of codeblocks or slices that share a size: most often few, sometimes more than the size, rarely any.
+pub fn random_count(random: &mut Random, size: usize) -> u32 {
     let most = match random.range(0, 39) {
         0..=19 => 1,
         20..=31 => 4,
@@ -140,16 +140,23 @@ fn random_count(random: &mut Random, size: usize) -> u32 {
     random.range(1, most) as u32
 }
 
+/// Sizes that are refused.
+pub const WRONG_SIZES: [u32; 8] = [0, 0, 4097, 4098, 5000, 1 << 16, 1 << 31, u32::MAX];
+
+/// Depths that are refused.
+pub const WRONG_DEPTHS: [u32; 9] = [5, 5, 6, 31, 32, 63, 64, 256, u32::MAX];
+
+/// Counts of codeblocks or slices that are refused.
+pub const WRONG_COUNTS: [u32; 6] = [0, 0, 256, 257, 1 << 16, u32::MAX];
+
 /// Puts one or more parameters out of range; a count above the depth may be among them, which is not
 /// looked at.
 pub fn put_out_of_range(random: &mut Random, p: &mut Parameters) {
-    const WRONG_SIZES: [u32; 8] = [0, 0, 4097, 4098, 5000, 1 << 16, 1 << 31, u32::MAX];
-    const WRONG_COUNTS: [u32; 6] = [0, 0, 256, 257, 1 << 16, u32::MAX];
     for _ in 0..random.pick(&[1, 1, 1, 1, 2, 3]) {
         match random.range(0, 6) {
             0 => p.width = random.pick(&WRONG_SIZES),
             1 => p.height = random.pick(&WRONG_SIZES),
-            2 => p.depth = random.pick(&[5, 5, 6, 31, 32, 63, 64, 256, u32::MAX]),
+            2 => p.depth = random.pick(&WRONG_DEPTHS),
             3 => p.wavelet = random.pick(&[7, 7, 8, 255, 256, 1 << 16, u32::MAX]),
             // A right number in the low bits alone.
             4 => {

@@ -1,5 +1,6 @@
 //! What the recordings reached: how many entries were given each status.
 
+use crate::lines::{part, rare_lines, whole, Line};
 use crate::recordings::unpack_entry;
 use crate::work::Tally;
 use reference::params::{ACCEPTED, LEFT_OVER_BYTES, SYNTHESIS_RANGE};
@@ -9,7 +10,6 @@ use std::fmt;
 
 /// What is known of an entry.
 struct Reached {
-    status: u32,
     /// How many bytes of the body lie behind those that were used, where the status is 10 or 12.
     left_over: u64,
     /// Whether the body is accepted and used to its end, and yet nothing depends on its last byte: the last
@@ -17,29 +17,8 @@ struct Reached {
     is_end_unread: bool,
 }
 
-/// A line of the table: the entries of one status, or some of them.
-struct Line {
-    name: &'static str,
-    status: u32,
-    includes: fn(&Reached) -> bool,
-}
-
-/// A line for a status.
-const fn whole(name: &'static str, status: u32) -> Line {
-    part(name, status, |_| true)
-}
-
-/// A line for some entries of a status.
-const fn part(name: &'static str, status: u32, includes: fn(&Reached) -> bool) -> Line {
-    Line {
-        name,
-        status,
-        includes,
-    }
-}
-
 /// Every line of the table that counts entries.
-const LINES: [Line; 16] = [
+const LINES: [Line<Reached>; 16] = [
     whole("0 accepted", 0),
     part("  last byte not read", 0, |entry| entry.is_end_unread),
     whole("1 width or height", 1),
@@ -57,13 +36,6 @@ const LINES: [Line; 16] = [
     part("  2 to 8", 12, |entry| (2..=8).contains(&entry.left_over)),
     part("  9 or more", 12, |entry| entry.left_over > 8),
 ];
-
-impl Line {
-    /// Whether an entry counts here.
-    fn has(&self, entry: &Reached) -> bool {
-        entry.status == self.status && (self.includes)(entry)
-    }
-}
 
 /// The line that counts recordings.
 const WRONG_TABLE: &str = "11 wrong table";
@@ -88,7 +60,7 @@ impl RecordingStatistics {
             self.entries += 1;
             let reached = reached(entry, answer);
             for (line, count) in LINES.iter().zip(&mut self.counts) {
-                *count += u64::from(line.has(&reached));
+                *count += u64::from(line.has(answer.status, &reached));
             }
         }
     }
@@ -118,7 +90,6 @@ fn reached(entry: &Entry, answer: Answer) -> Reached {
         _ => 0,
     };
     Reached {
-        status: answer.status,
         left_over,
         is_end_unread: answer.status == ACCEPTED && is_end_unread(entry),
     }
@@ -149,17 +120,11 @@ impl Tally for RecordingStatistics {
 
     /// What occurred less often than demanded, a line each.
     fn too_rare(&self) -> Vec<String> {
-        let mut list = Vec::new();
-        let mut status_name = "";
-        for (line, &count) in LINES.iter().zip(&self.counts) {
-            let part = line.name.strip_prefix(' ').unwrap_or("");
-            if part.is_empty() {
-                status_name = line.name;
-            }
-            if count < self.entries / RecordingStatistics::ONE_IN {
-                list.push(format!("entries: {status_name}{part}: {count} times"));
-            }
-        }
+        let demanded = self.entries / RecordingStatistics::ONE_IN;
+        let mut list: Vec<String> = rare_lines(&LINES, &self.counts, demanded)
+            .iter()
+            .map(|line| format!("entries: {line}"))
+            .collect();
         if self.wrong_tables < self.recordings / RecordingStatistics::ONE_IN {
             let count = self.wrong_tables;
             list.push(format!("recordings: {WRONG_TABLE}: {count} times"));

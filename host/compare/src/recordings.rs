@@ -5,7 +5,7 @@
 //! what is written, byte by byte, with the text of the reference.
 
 use crate::bodies::random_bytes;
-use crate::case::Case;
+use crate::case::{hex, Case};
 use crate::parameters::put_out_of_range;
 use crate::program::first_difference;
 use reference::params::{padded_area, subbands};
@@ -63,7 +63,7 @@ impl Recording {
 
     /// The file in hexadecimal.
     pub fn hex(&self) -> String {
-        self.file.iter().map(|byte| format!("{byte:02x}")).collect()
+        hex(&self.file)
     }
 }
 

@@ -1,9 +1,9 @@
 //! Streams of pictures at random, named by a seed.
 
 use crate::setting::Setting;
-use crate::stream::{BitDepth, Stream, COMPONENTS};
+use crate::stream::{BitDepth, Format, Stream, COMPONENTS};
 use reference::encode::{encode_body, EncodeOptions, SubbandOptions};
-use reference::params::{padded_area, padded_width, sample_area, subbands};
+use reference::params::{padded_area, sample_area, subbands};
 use reference::unpack::dequantise;
 use reference::Parameters;
 use vectors::pictures::{encode_coefficients, picture_coefficients};
@@ -40,10 +40,15 @@ impl Case {
         }
     }
 
+    /// The form of its pictures.
+    pub fn format(&self) -> Format {
+        let p = &self.pictures[0].parameters;
+        Format::full(p.width, p.height, self.setting.bit_depth)
+    }
+
     /// The data units of the Dirac stream, whose first picture is the reference picture.
     pub fn dirac_stream(&self) -> Vec<Vec<u8>> {
-        let p = &self.pictures[0].parameters;
-        let mut stream = Stream::new(p.width, p.height, self.setting.bit_depth);
+        let mut stream = Stream::new(self.format());
         stream.add_reference();
         for (number, picture) in (1..).zip(&self.pictures) {
             let bodies = picture.bodies.each_ref().map(Vec::as_slice);
@@ -86,18 +91,10 @@ fn mixed_case(random: &mut Random, seed: u64) -> Case {
 /// Parameters of a size that FFmpeg takes: no level is too narrow for its SIMD code, and wavelet 6 has 8
 /// bits.
 fn random_parameters(random: &mut Random, width: u32, height: u32, setting: Setting) -> Parameters {
-    let last_wavelet = if setting.bit_depth == BitDepth::Eight {
-        6
-    } else {
-        5
-    };
-    let wavelet = random.range(0, last_wavelet) as u32;
+    let wavelet = random_wavelet(random, setting.bit_depth);
     let most = width.min(height).ilog2().min(4);
-    let depth = random.range(1, most.into()) as u32;
+    let depth = allowed_depth(setting, width, random.range(1, most.into()) as u32);
     let mut p = plain(width, height, depth, wavelet, random_intra(random));
-    while setting.simd && padded_width(&p) >> (p.depth - 1) < 8 {
-        p.depth -= 1;
-    }
     let split = random.flag();
     for level in 0..=p.depth {
         let mut count = |size: u32| match (split, size >> (p.depth - level)) {
@@ -109,6 +106,20 @@ fn random_parameters(random: &mut Random, width: u32, height: u32, setting: Sett
         p.codeblocks_down[level as usize] = down;
     }
     p
+}
+
+/// A wavelet; 6 has 8 bits.
+pub fn random_wavelet(random: &mut Random, bit_depth: BitDepth) -> u32 {
+    let last = if bit_depth == BitDepth::Eight { 6 } else { 5 };
+    random.range(0, last) as u32
+}
+
+/// The largest depth up to one at which no level of a component of a width is too narrow for FFmpeg's SIMD code,
+/// if that decodes it; the width is then 8 or more.
+pub fn allowed_depth(setting: Setting, width: u32, depth: u32) -> u32 {
+    let narrowest = |depth: u32| width.next_multiple_of(1 << depth) >> (depth - 1);
+    let is_allowed = |depth: &u32| !setting.simd || narrowest(*depth) >= 8;
+    (1..=depth).rev().find(is_allowed).expect("depth 1")
 }
 
 /// A body of random numbers, or of a picture whose samples have so many bits.
@@ -132,13 +143,18 @@ fn random_body(random: &mut Random, p: &Parameters, bit_depth: BitDepth) -> Vec<
             .collect();
         return encode_body(p, &plane, &options);
     }
-    let height = i64::from(bit_depth.offset()) / random.pick(&[2, 3, 5, 20]);
-    let samples = if random.flag() {
-        noise(random, p, height)
-    } else {
-        slope_and_edge(random, p, height)
-    };
+    let samples = random_samples(random, p, bit_depth);
     encode_coefficients(p, &picture_coefficients(p, &samples), &options)
+}
+
+/// Samples of so many bits: noise, or a slope with an edge.
+pub fn random_samples(random: &mut Random, p: &Parameters, bit_depth: BitDepth) -> Vec<i64> {
+    let magnitude = i64::from(bit_depth.offset()) / random.pick(&[2, 3, 5, 20]);
+    if random.flag() {
+        noise(random, p, magnitude)
+    } else {
+        slope_and_edge(random, p, magnitude)
+    }
 }
 
 /// Samples up to a magnitude.

@@ -6,7 +6,6 @@ use crate::offsets::told_apart;
 use crate::setting::{Setting, Shown};
 use crate::stream::{BitDepth, COMPONENTS};
 use crate::{peer, proved};
-use reference::params::sample_area;
 use reference::Parameters;
 use std::collections::BTreeSet;
 use std::fmt;
@@ -17,7 +16,8 @@ pub struct Difference {
     pub seed: u64,
     pub picture: usize,
     pub component: usize,
-    pub parameters: Parameters,
+    /// All parameters of the picture, as they are printed.
+    pub parameters: String,
     pub setting: Setting,
     pub what: String,
 }
@@ -26,7 +26,7 @@ impl fmt::Display for Difference {
     fn fmt(&self, f: &mut fmt::Formatter) -> fmt::Result {
         write!(
             f,
-            "seed {}, picture {}, component {}: {}\n  {:?}\n  {:?}",
+            "seed {}, picture {}, component {}: {}\n  {}\n  {:?}",
             self.seed, self.picture, self.component, self.what, self.parameters, self.setting
         )
     }
@@ -108,12 +108,14 @@ impl fmt::Display for Counts {
             self.whole, self.in_part
         )?;
         writeln!(f, "  intra: {} components", compared - self.not_intra)?;
-        writeln!(
-            f,
-            "  not intra: {} components, offsets told apart at {} indices",
-            self.not_intra,
-            self.told_apart.len()
-        )?;
+        if self.not_intra > 0 {
+            writeln!(
+                f,
+                "  not intra: {} components, offsets told apart at {} indices",
+                self.not_intra,
+                self.told_apart.len()
+            )?;
+        }
         writeln!(
             f,
             "  with FFmpeg's SIMD code: {}, in plain C: {}",
@@ -140,9 +142,7 @@ impl fmt::Display for Counts {
 /// Has FFmpeg and the proved library decode a case and compares; adds to the counts, and gives the
 /// differences. An error is FFmpeg's failure to give the pictures.
 pub fn compare(case: &Case, counts: &mut Counts) -> Result<Vec<Difference>, String> {
-    let samples = sample_area(&case.pictures[0].parameters);
-    let Setting { bit_depth, simd } = case.setting;
-    let found = peer::decode(&case.dirac_stream(), samples, bit_depth, simd)?;
+    let found = peer::decode(&case.dirac_stream(), case.format(), case.setting.simd)?;
     // The first is the reference picture.
     compare_with(case, found.get(1..).unwrap_or_default(), counts)
 }
@@ -153,9 +153,7 @@ pub fn compare_with(
     found: &[[Vec<i32>; COMPONENTS]],
     counts: &mut Counts,
 ) -> Result<Vec<Difference>, String> {
-    if found.len() != case.pictures.len() {
-        return Err(format!("FFmpeg gave {} pictures", found.len()));
-    }
+    check_count(found.len(), case.pictures.len())?;
     let mut differences = Vec::new();
     for (number, (picture, found)) in case.pictures.iter().zip(found).enumerate() {
         for (component, found) in found.iter().enumerate() {
@@ -164,7 +162,7 @@ pub fn compare_with(
                     seed: case.seed,
                     picture: number,
                     component,
-                    parameters: picture.parameters.clone(),
+                    parameters: format!("{:?}", picture.parameters),
                     setting: case.setting,
                     what,
                 });
@@ -172,6 +170,15 @@ pub fn compare_with(
         }
     }
     Ok(differences)
+}
+
+/// An error unless FFmpeg gave as many pictures as there are.
+pub(crate) fn check_count(found: usize, expected: usize) -> Result<(), String> {
+    if found == expected {
+        Ok(())
+    } else {
+        Err(format!("FFmpeg gave {found} pictures"))
+    }
 }
 
 /// Compares one component with what FFmpeg made of it; says where it differs.
@@ -187,24 +194,37 @@ fn compare_component(
     let expected = proved::decode(p, body)
         .map_err(|_| Aside::Refused)
         .and_then(|decoded| expected_samples(p, setting, decoded));
+    let difference = judge(p, setting, &expected, found, counts);
+    if let (Ok(expected), None, false) = (&expected, &difference, p.intra) {
+        let indices = told_apart(p, setting, body, expected, &counts.told_apart);
+        counts.told_apart.extend(indices);
+    }
+    difference
+}
+
+/// Compares what is expected of FFmpeg for a component, if anything is, with what it made of it, and counts;
+/// says where it differs.
+pub(crate) fn judge(
+    p: &Parameters,
+    setting: Setting,
+    expected: &Result<Expected, Aside>,
+    found: &[i32],
+    counts: &mut Counts,
+) -> Option<String> {
     let expected = match expected {
         Ok(expected) => expected,
         Err(aside) => {
-            counts.aside[aside as usize] += 1;
+            counts.aside[*aside as usize] += 1;
             return None;
         }
     };
-    let difference = difference(p, &expected, found);
+    let difference = difference(p, expected, found);
     if difference.is_none() && expected.samples_shown() == 0 {
         counts.aside[Aside::Clipped as usize] += 1;
         return None;
     }
-    counts.add(p, setting, &expected);
+    counts.add(p, setting, expected);
     counts.different += u64::from(difference.is_some());
-    if difference.is_none() && !p.intra {
-        let indices = told_apart(p, setting, body, &expected, &counts.told_apart);
-        counts.told_apart.extend(indices);
-    }
     difference
 }
 

@@ -17,10 +17,16 @@ use vectors::levels::{build_picture, crop, halve};
 pub enum Aside {
     /// The proved library refuses it, so there are no samples.
     Refused,
-    /// FFmpeg has no depth 0.
-    Depth,
+    /// In a slice of 1, 2, 4, 8.. bytes FFmpeg's luma length has a bit more, or four in one of 1 byte.
+    SliceLength,
+    /// FFmpeg reads on where the luma or chroma bits of a slice end inside a number.
+    CutNumber,
+    /// FFmpeg skips luma bits that no number takes in the wrong direction, so it reads chroma elsewhere.
+    LumaLeftOver,
     /// FFmpeg refuses more codeblocks than the width or height, halved once for each level above.
     Codeblocks,
+    /// FFmpeg has no depth 0.
+    Depth,
     /// FFmpeg's SIMD code spoils levels of fewer than 8 columns.
     NarrowSimd,
     /// FFmpeg's wavelet 2 goes wrong at the edge of levels of up to 4 columns.
@@ -39,10 +45,13 @@ pub enum Aside {
 
 impl Aside {
     /// Every reason, in the order in which they are looked for.
-    pub const ALL: [Aside; 10] = [
+    pub const ALL: [Aside; 13] = [
         Aside::Refused,
-        Aside::Depth,
+        Aside::SliceLength,
+        Aside::CutNumber,
+        Aside::LumaLeftOver,
         Aside::Codeblocks,
+        Aside::Depth,
         Aside::NarrowSimd,
         Aside::NarrowWavelet2,
         Aside::DeepWavelet6,
@@ -56,8 +65,11 @@ impl Aside {
     pub fn reason(self) -> &'static str {
         match self {
             Aside::Refused => "refused by the proved library",
-            Aside::Depth => "depth 0",
+            Aside::SliceLength => "a slice whose bytes are a power of two",
+            Aside::CutNumber => "bits of a slice that end inside a number",
+            Aside::LumaLeftOver => "chroma behind luma bits that are left over",
             Aside::Codeblocks => "more codeblocks than FFmpeg allows",
+            Aside::Depth => "depth 0",
             Aside::NarrowSimd => "SIMD, a level of fewer than 8 columns",
             Aside::NarrowWavelet2 => "wavelet 2, a level of up to 4 columns",
             Aside::DeepWavelet6 => "wavelet 6 with more than 8 bits",
@@ -96,7 +108,17 @@ pub fn expected_samples(
     setting: Setting,
     decoded: Decoded,
 ) -> Result<Expected, Aside> {
-    check_parameters(p, setting)?;
+    check_codeblocks(p)?;
+    expected_without_codeblocks(p, setting, decoded)
+}
+
+/// The same for a component without codeblocks, whose counts are not looked at.
+pub fn expected_without_codeblocks(
+    p: &Parameters,
+    setting: Setting,
+    decoded: Decoded,
+) -> Result<Expected, Aside> {
+    check_transform(p, setting)?;
     check_dequantising(p, &decoded.coefficients)?;
     check_prediction(p, &decoded.coefficients)?;
     let synthesised = synthesise(p, setting, &decoded.coefficients)?;
@@ -120,11 +142,8 @@ fn has_simd(wavelet: u32) -> bool {
     wavelet < 5
 }
 
-/// The reasons that lie in the parameters.
-fn check_parameters(p: &Parameters, setting: Setting) -> Result<(), Aside> {
-    if p.depth == 0 {
-        return Err(Aside::Depth);
-    }
+/// Whether FFmpeg takes so many codeblocks.
+fn check_codeblocks(p: &Parameters) -> Result<(), Aside> {
     for level in 0..=p.depth {
         let most = |size: u32| size >> (p.depth - level);
         if p.codeblocks_across[level as usize] > most(p.width)
@@ -132,6 +151,14 @@ fn check_parameters(p: &Parameters, setting: Setting) -> Result<(), Aside> {
         {
             return Err(Aside::Codeblocks);
         }
+    }
+    Ok(())
+}
+
+/// The reasons that lie in the size, the depth and the wavelet.
+fn check_transform(p: &Parameters, setting: Setting) -> Result<(), Aside> {
+    if p.depth == 0 {
+        return Err(Aside::Depth);
     }
     if setting.simd && narrowest_level(p) < 8 {
         return Err(Aside::NarrowSimd);

@@ -1,6 +1,6 @@
 //! The `ffmpeg` command.
 
-use crate::stream::{BitDepth, COMPONENTS};
+use crate::stream::{Format, COMPONENTS};
 use std::io::Write;
 use std::process::{Command, Stdio};
 use std::thread;
@@ -19,26 +19,33 @@ pub fn version() -> Result<String, String> {
 /// gives them: offset and clipped. With or without its SIMD code. An error is what it says of it.
 pub fn decode(
     stream: &[Vec<u8>],
-    samples: usize,
-    bit_depth: BitDepth,
+    format: Format,
     simd: bool,
 ) -> Result<Vec<[Vec<i32>; COMPONENTS]>, String> {
     let raw = run(&ivf_file(stream), simd)?;
-    let component = samples * bit_depth.sample_bytes();
-    if raw.len() % (COMPONENTS * component) != 0 {
+    let sample_bytes = format.bit_depth.sample_bytes();
+    let lengths = format
+        .sizes()
+        .map(|(width, height)| (width * height) as usize * sample_bytes);
+    let picture: usize = lengths.iter().sum();
+    if raw.len() % picture != 0 {
         return Err(format!("{} bytes are no whole pictures", raw.len()));
     }
-    let read = |bytes: &[u8]| match bit_depth {
-        BitDepth::Eight => bytes.iter().map(|&byte| byte.into()).collect(),
-        _ => bytes
-            .chunks(2)
-            .map(|pair| u16::from_le_bytes([pair[0], pair[1]]).into())
-            .collect(),
+    // The lowest byte comes first.
+    let sample = |bytes: &[u8]| {
+        bytes
+            .iter()
+            .rev()
+            .fold(0, |n, &byte| n << 8 | i32::from(byte))
     };
-    Ok(raw
-        .chunks(COMPONENTS * component)
-        .map(|picture| [0, 1, 2].map(|k| read(&picture[k * component..][..component])))
-        .collect())
+    let components = |mut picture: &[u8]| {
+        lengths.map(|length| {
+            let (own, others) = picture.split_at(length);
+            picture = others;
+            own.chunks(sample_bytes).map(sample).collect()
+        })
+    };
+    Ok(raw.chunks(picture).map(components).collect())
 }
 
 /// An IVF file with a packet for each data unit. FFmpeg's parser of bare Dirac streams passes over pictures

@@ -1,11 +1,11 @@
-//! Dirac streams of pictures in core syntax, coded with variable-length codes.
+//! Dirac streams of pictures in core syntax, coded with variable-length codes, or of low delay pictures.
 //!
-//! Section numbers are those of the Dirac specification 2.2. All three components have the size of
-//! the picture (4:4:4). A picture that is not intra names a reference picture, as it must, but is
+//! Section numbers are those of the Dirac specification 2.2. In core syntax all three components have the
+//! size of the picture (4:4:4). A picture that is not intra names a reference picture, as it must, but is
 //! predicted by the value 0 everywhere: like an intra picture it shows its own samples.
 
 use reference::codes::BitWriter;
-use reference::Parameters;
+use reference::{LowDelay, Parameters};
 use vectors::pieces::plain;
 
 /// How many components a picture has.
@@ -17,6 +17,7 @@ const END_OF_SEQUENCE: u8 = 0x10;
 const INTRA_PICTURE: u8 = 0x48;
 const INTRA_REFERENCE_PICTURE: u8 = 0x4C;
 const ONE_REFERENCE_PICTURE: u8 = 0x49;
+const LOW_DELAY_PICTURE: u8 = 0xC8;
 
 /// The number of the reference picture.
 const REFERENCE_NUMBER: u32 = 0;
@@ -68,6 +69,77 @@ impl BitDepth {
     }
 }
 
+/// How large the chroma components are beside luma.
+#[derive(Clone, Copy, Debug, PartialEq, Eq)]
+pub enum ChromaFormat {
+    /// 4:4:4: as large as luma.
+    Full,
+    /// 4:2:2: half as wide.
+    HalfWidth,
+    /// 4:2:0: half as wide and half as high.
+    HalfSize,
+}
+
+impl ChromaFormat {
+    /// All of them, in the order of their numbers (10.3.3).
+    pub const ALL: [ChromaFormat; 3] = [
+        ChromaFormat::Full,
+        ChromaFormat::HalfWidth,
+        ChromaFormat::HalfSize,
+    ];
+
+    /// The usual name.
+    pub fn name(self) -> &'static str {
+        match self {
+            ChromaFormat::Full => "4:4:4",
+            ChromaFormat::HalfWidth => "4:2:2",
+            ChromaFormat::HalfSize => "4:2:0",
+        }
+    }
+
+    /// What width and height are divided by.
+    pub fn divisors(self) -> (u32, u32) {
+        match self {
+            ChromaFormat::Full => (1, 1),
+            ChromaFormat::HalfWidth => (2, 1),
+            ChromaFormat::HalfSize => (2, 2),
+        }
+    }
+}
+
+/// The form of a stream's pictures.
+#[derive(Clone, Copy, Debug, PartialEq, Eq)]
+pub struct Format {
+    pub width: u32,
+    pub height: u32,
+    pub chroma: ChromaFormat,
+    pub bit_depth: BitDepth,
+}
+
+impl Format {
+    /// A picture whose components are all of one size.
+    pub fn full(width: u32, height: u32, bit_depth: BitDepth) -> Format {
+        Format {
+            width,
+            height,
+            chroma: ChromaFormat::Full,
+            bit_depth,
+        }
+    }
+
+    /// The width and the height of a chroma component, which FFmpeg wants to be whole halves.
+    pub fn chroma_size(&self) -> (u32, u32) {
+        let (across, down) = self.chroma.divisors();
+        (self.width / across, self.height / down)
+    }
+
+    /// The width and the height of each component.
+    pub fn sizes(&self) -> [(u32, u32); COMPONENTS] {
+        let chroma = self.chroma_size();
+        [(self.width, self.height), chroma, chroma]
+    }
+}
+
 /// A stream that grows by data units (9.3).
 #[derive(Default)]
 pub struct Stream {
@@ -76,24 +148,23 @@ pub struct Stream {
 
 impl Stream {
     /// A stream that begins with a sequence header (10).
-    pub fn new(width: u32, height: u32, bit_depth: BitDepth) -> Stream {
+    pub fn new(format: Format) -> Stream {
         let mut header = BitWriter::new();
         // Version 2.2, profile and level 0, a custom video format.
         for number in [2, 2, 0, 0, 0] {
             header.number(number);
         }
         header.bit(true);
-        header.number(width.into());
-        header.number(height.into());
-        // Chroma format 4:4:4.
+        header.number(format.width.into());
+        header.number(format.height.into());
         header.bit(true);
-        header.number(0);
+        header.number(format.chroma as u64);
         // Scan format, frame rate, pixel aspect ratio and clean area are those of the video format.
         for _ in 0..4 {
             header.bit(false);
         }
         header.bit(true);
-        header.number(bit_depth.signal_range());
+        header.number(format.bit_depth.signal_range());
         // The colour specification is that of the video format; pictures are frames.
         header.bit(false);
         header.number(0);
@@ -134,14 +205,28 @@ impl Stream {
         for body in bodies {
             data.extend(body);
         }
-        let before: usize = self.units.iter().map(Vec::len).sum();
         let parse_code = if p.intra {
             INTRA_PICTURE
         } else {
             ONE_REFERENCE_PICTURE
         };
-        self.add_unit(parse_code, &data);
-        before + PARSE_INFO_LENGTH
+        self.add_unit(parse_code, &data)
+    }
+
+    /// Adds a low delay picture (11, 12) with a wavelet and these bytes of slices; answers where its number
+    /// stands, as for other pictures. It is read as an intra picture, whatever its parameters say, which must
+    /// have the sizes of the stream.
+    pub fn add_low_delay(
+        &mut self,
+        number: u32,
+        p: &LowDelay,
+        wavelet: u32,
+        bytes: &[u8],
+    ) -> usize {
+        let mut data = number.to_be_bytes().to_vec();
+        data.extend(slice_parameters(p, wavelet));
+        data.extend(bytes);
+        self.add_unit(LOW_DELAY_PICTURE, &data)
     }
 
     /// The bytes so far.
@@ -155,8 +240,9 @@ impl Stream {
         self.units
     }
 
-    /// Adds a parse info header (9.6) and what follows it.
-    fn add_unit(&mut self, parse_code: u8, data: &[u8]) {
+    /// Adds a parse info header (9.6) and what follows it; answers where in the stream that begins.
+    fn add_unit(&mut self, parse_code: u8, data: &[u8]) -> usize {
+        let before: usize = self.units.iter().map(Vec::len).sum();
         let length = PARSE_INFO_LENGTH + data.len();
         // The last unit has no next one, and the first has none before it.
         let next = if parse_code == END_OF_SEQUENCE {
@@ -173,6 +259,7 @@ impl Stream {
         }
         unit.extend(data);
         self.units.push(unit);
+        before + PARSE_INFO_LENGTH
     }
 }
 
@@ -199,6 +286,28 @@ fn transform_parameters(p: &Parameters) -> Vec<u8> {
     }
     // One quantiser for each subband.
     transform.number(0);
+    transform.to_bytes(false)
+}
+
+/// Where the transform of a low delay picture begins (11.3): the transform parameters, with the matrix always
+/// written out.
+fn slice_parameters(p: &LowDelay, wavelet: u32) -> Vec<u8> {
+    let picture = &p.picture;
+    let mut transform = BitWriter::new();
+    for number in [
+        wavelet,
+        picture.depth,
+        picture.slices_across,
+        picture.slices_down,
+        p.numerator,
+        p.denominator,
+    ] {
+        transform.number(number.into());
+    }
+    transform.bit(true);
+    for &entry in picture.used_matrix() {
+        transform.number(entry.into());
+    }
     transform.to_bytes(false)
 }
 

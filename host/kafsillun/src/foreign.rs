@@ -1,7 +1,7 @@
 //! The declarations of `include/kafsillun.h` in Rust.
 //!
 //! Nothing but tests ties them to the archive: those below compare them with the header, and those in
-//! `tests/fields.rs` call the library so that every field matters.
+//! `tests/fields.rs` and `tests/low_delay.rs` call the library so that every field matters.
 
 /// `KafsillunParameters`.
 #[repr(C)]
@@ -15,6 +15,24 @@ pub struct Parameters {
     pub intra: u32,
     pub codeblocks_across: [u32; 5],
     pub codeblocks_down: [u32; 5],
+}
+
+/// `KafsillunLowDelay`.
+#[repr(C)]
+#[derive(Clone, Copy, Debug)]
+pub struct LowDelay {
+    pub luma_width: u32,
+    pub luma_height: u32,
+    pub chroma_width: u32,
+    pub chroma_height: u32,
+    pub depth: u32,
+    /// Non-zero is yes.
+    pub intra: u32,
+    pub slices_across: u32,
+    pub slices_down: u32,
+    pub numerator: u32,
+    pub denominator: u32,
+    pub matrix: [u32; 13],
 }
 
 /// `KafsillunAnswer`.
@@ -57,6 +75,18 @@ extern "C" {
         samples: *mut i32,
         samples_length: usize,
     ) -> Answer;
+
+    pub fn kafsillun_unpack_low_delay(
+        p: LowDelay,
+        bytes: *const u8,
+        bytes_length: usize,
+        luma: *mut i32,
+        luma_length: usize,
+        first_chroma: *mut i32,
+        first_chroma_length: usize,
+        second_chroma: *mut i32,
+        second_chroma_length: usize,
+    ) -> Answer;
 }
 
 #[cfg(test)]
@@ -75,6 +105,7 @@ mod tests {
         #include "kafsillun.h"
 
         typedef KafsillunParameters P;
+        typedef KafsillunLowDelay L;
         typedef KafsillunAnswer A;
 
         #define TYPE_OF(f, t) _Static_assert(_Generic(&f, t: 1, default: 0), #f)
@@ -82,6 +113,8 @@ mod tests {
         TYPE_OF(kafsillun_synthesise, A (*)(P, const int32_t *, size_t, int32_t *, size_t,
             int32_t *, size_t));
         TYPE_OF(kafsillun_decode, A (*)(P, const uint8_t *, size_t, int32_t *, size_t,
+            int32_t *, size_t, int32_t *, size_t));
+        TYPE_OF(kafsillun_unpack_low_delay, A (*)(L, const uint8_t *, size_t, int32_t *, size_t,
             int32_t *, size_t, int32_t *, size_t));
 
         #define TYPE(t) printf(#t " %zu %zu\n", sizeof(t), _Alignof(t))
@@ -97,6 +130,18 @@ mod tests {
             FIELD(P, intra);
             FIELD(P, codeblocks_across);
             FIELD(P, codeblocks_down);
+            TYPE(L);
+            FIELD(L, luma_width);
+            FIELD(L, luma_height);
+            FIELD(L, chroma_width);
+            FIELD(L, chroma_height);
+            FIELD(L, depth);
+            FIELD(L, intra);
+            FIELD(L, slices_across);
+            FIELD(L, slices_down);
+            FIELD(L, numerator);
+            FIELD(L, denominator);
+            FIELD(L, matrix);
             TYPE(A);
             FIELD(A, status);
             FIELD(A, place);
@@ -111,12 +156,14 @@ mod tests {
             NUMBER(KAFSILLUN_QUANTISER_REFUSED);
             NUMBER(KAFSILLUN_VALUE_OUT_OF_RANGE);
             NUMBER(KAFSILLUN_SYNTHESIS_OUT_OF_RANGE);
+            NUMBER(KAFSILLUN_SLICES_REFUSED);
+            NUMBER(KAFSILLUN_LUMA_LENGTH_REFUSED);
             return 0;
         }
     "#;
 
     /// The header's names of the refusals.
-    const REFUSALS: [(&str, Refusal); 10] = [
+    const REFUSALS: [(&str, Refusal); 12] = [
         ("SIZE_REFUSED", Refusal::Size),
         ("DEPTH_REFUSED", Refusal::Depth),
         ("WAVELET_REFUSED", Refusal::Wavelet),
@@ -127,6 +174,8 @@ mod tests {
         ("QUANTISER_REFUSED", Refusal::Quantiser),
         ("VALUE_OUT_OF_RANGE", Refusal::CoefficientRange),
         ("SYNTHESIS_OUT_OF_RANGE", Refusal::SynthesisRange),
+        ("SLICES_REFUSED", Refusal::Slices),
+        ("LUMA_LENGTH_REFUSED", Refusal::LumaLength),
     ];
 
     /// Adds the same lines for a struct declared above to a text.
@@ -151,6 +200,9 @@ mod tests {
         let mut text = String::new();
         add_layout!(text, "P", Parameters:
             width height depth wavelet intra codeblocks_across codeblocks_down);
+        add_layout!(text, "L", LowDelay:
+            luma_width luma_height chroma_width chroma_height depth intra slices_across slices_down
+            numerator denominator matrix);
         add_layout!(text, "A", Answer: status place);
         text += "KAFSILLUN_ACCEPTED 0\n";
         for (name, refusal) in REFUSALS {
@@ -204,11 +256,31 @@ mod tests {
         }
     }
 
+    /// Parameters of a picture of one slice of three bytes, whose components are a value each.
+    fn picture_of_one(intra: u32) -> LowDelay {
+        LowDelay {
+            luma_width: 1,
+            luma_height: 1,
+            chroma_width: 1,
+            chroma_height: 1,
+            depth: 0,
+            intra,
+            slices_across: 1,
+            slices_down: 1,
+            numerator: 3,
+            denominator: 1,
+            matrix: [0; 13],
+        }
+    }
+
+    /// Values of the intra flag.
+    const FLAGS: [u32; 9] = [0, 1, 2, 3, 0x80, 0x100, 0x1_0000, 1 << 31, u32::MAX];
+
     #[test]
     fn every_intra_but_0_is_yes() {
         // Length 1, quantiser 0, then 1 and 1.
         let bytes = [0x30, 0b0010_0010];
-        for intra in [0, 1, 2, 3, 0x80, 0x100, 0x1_0000, 1 << 31, u32::MAX] {
+        for intra in FLAGS {
             let mut coefficients = [7; 2];
             // SAFETY: each pointer and length are of one slice, and the slices are apart.
             let answer = unsafe {
@@ -230,6 +302,38 @@ mod tests {
     }
 
     #[test]
+    fn every_intra_but_0_is_yes_of_a_picture() {
+        // Index 12, four bits of luma: 1. Chroma is 0 and 0.
+        let bytes = [0x18, 0x42, 0xFF];
+        for intra in FLAGS {
+            let (mut luma, mut first, mut second) = ([7], [7], [7]);
+            // SAFETY: each pointer and length are of one slice, and the slices are apart.
+            let answer = unsafe {
+                kafsillun_unpack_low_delay(
+                    picture_of_one(intra),
+                    bytes.as_ptr(),
+                    bytes.len(),
+                    luma.as_mut_ptr(),
+                    luma.len(),
+                    first.as_mut_ptr(),
+                    first.len(),
+                    second.as_mut_ptr(),
+                    second.len(),
+                )
+            };
+            let accepted = Answer {
+                status: 0,
+                place: 3,
+            };
+            assert_eq!(answer, accepted, "intra {intra}");
+            assert_eq!(
+                [luma, first, second],
+                [[12 - i32::from(intra == 0)], [0], [0]]
+            );
+        }
+    }
+
+    #[test]
     fn an_empty_slice_may_be_null() {
         use std::ptr::{null, null_mut};
         let mut coefficients = [7; 2];
@@ -239,10 +343,21 @@ mod tests {
                 kafsillun_unpack(row_of_two(1), null(), 0, coefficients.as_mut_ptr(), 2),
                 kafsillun_unpack(row_of_two(1), null(), 0, null_mut(), 0),
                 kafsillun_synthesise(row_of_two(1), null(), 0, null_mut(), 0, null_mut(), 0),
+                kafsillun_unpack_low_delay(
+                    picture_of_one(1),
+                    null(),
+                    0,
+                    null_mut(),
+                    0,
+                    null_mut(),
+                    0,
+                    null_mut(),
+                    0,
+                ),
             ]
         };
-        assert_eq!(answers.map(|answer| answer.status), [6, 5, 5]);
-        assert_eq!(answers.map(|answer| answer.place), [0; 3]);
+        assert_eq!(answers.map(|answer| answer.status), [6, 5, 5, 5]);
+        assert_eq!(answers.map(|answer| answer.place), [0; 4]);
         assert_eq!(coefficients, [0; 2]);
     }
 }

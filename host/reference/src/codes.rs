@@ -3,16 +3,17 @@
 //! States document 01, "Number codes" (interleaved exp-Golomb codes).
 
 use crate::params::{BYTES_END, CODE_TOO_LONG};
+use std::ops::Range;
 
 /// The most data bits a number code may have.
 pub const MAX_DATA_BITS: u32 = 31;
 
-/// What reading a bit past the last byte gives.
+/// What reading a bit past the end gives.
 #[derive(Clone, Copy, Debug, PartialEq, Eq)]
 pub enum PastEnd {
     /// Status 6: as in a subband's header.
     Missing,
-    /// A 1: as in codeblock data of a stated length.
+    /// A 1: as in codeblock data of a stated length, and in a slice's parts.
     One,
 }
 
@@ -20,6 +21,8 @@ pub enum PastEnd {
 pub struct BitReader<'a> {
     bytes: &'a [u8],
     position: usize,
+    /// How many bits lie before the end.
+    end: usize,
     past_end: PastEnd,
 }
 
@@ -29,21 +32,43 @@ impl<'a> BitReader<'a> {
         BitReader {
             bytes,
             position: 0,
+            end: 8 * bytes.len(),
             past_end,
+        }
+    }
+
+    /// A reader of a part of these bytes' bits (document 02, "Low delay slices": "a bit past a part's end
+    /// reads as 1").
+    pub fn of_part(bytes: &'a [u8], part: Range<usize>) -> BitReader<'a> {
+        assert!(part.start <= part.end && part.end <= 8 * bytes.len());
+        BitReader {
+            bytes,
+            position: part.start,
+            end: part.end,
+            past_end: PastEnd::One,
         }
     }
 
     /// The next bit, or status 6 (document 01, "Number codes").
     pub fn bit(&mut self) -> Result<u64, u32> {
-        let Some(byte) = self.bytes.get(self.position / 8) else {
+        if self.position >= self.end {
             return match self.past_end {
                 PastEnd::Missing => Err(BYTES_END),
                 PastEnd::One => Ok(1),
             };
-        };
-        let bit = byte >> (7 - self.position % 8) & 1;
+        }
+        let bit = self.bytes[self.position / 8] >> (7 - self.position % 8) & 1;
         self.position += 1;
         Ok(u64::from(bit))
+    }
+
+    /// The number that the next bits are, the highest first, or status 6.
+    pub fn bits(&mut self, count: usize) -> Result<u64, u32> {
+        let mut number = 0;
+        for _ in 0..count {
+            number = 2 * number + self.bit()?;
+        }
+        Ok(number)
     }
 
     /// The next number, or status 6 or 7 (document 01, "Number codes").
@@ -95,6 +120,28 @@ impl BitWriter {
     /// Adds one bit.
     pub fn bit(&mut self, bit: bool) {
         self.bits.push(bit);
+    }
+
+    /// Adds the low bits of a number, the highest first.
+    pub fn bits(&mut self, number: u64, count: usize) {
+        for bit in (0..count).rev() {
+            self.bit(number >> bit & 1 == 1);
+        }
+    }
+
+    /// Adds the bits of another writer.
+    pub fn append(&mut self, other: &BitWriter) {
+        self.bits.extend(&other.bits);
+    }
+
+    /// How many bits there are.
+    pub fn count(&self) -> usize {
+        self.bits.len()
+    }
+
+    /// Makes the number of bits this: cuts bits off at the end, or adds the given bit there.
+    pub fn cut_or_fill(&mut self, count: usize, fill: bool) {
+        self.bits.resize(count, fill);
     }
 
     /// Adds a number's code; from 2^32 - 1 up it has more than 31 data bits (document 01, "Number

@@ -11,9 +11,11 @@
 //! unpack W H DEPTH WAVELET INTRA A0 D0 A1 D1 A2 D2 A3 D3 A4 D4 COEFFICIENTS_LENGTH BYTES
 //! synthesise W H DEPTH WAVELET WORK_LENGTH SAMPLES_LENGTH C0 C1 ...
 //! decode W H DEPTH WAVELET INTRA A0 D0 A1 D1 A2 D2 A3 D3 A4 D4 COEFFICIENTS_LENGTH WORK_LENGTH SAMPLES_LENGTH BYTES
+//! low_delay LUMA_W LUMA_H CHROMA_W CHROMA_H DEPTH INTRA ACROSS DOWN NUMERATOR DENOMINATOR M0 M1 ... M12 LUMA_LENGTH C1_LENGTH C2_LENGTH BYTES
 //! ```
 //!
-//! W, H, DEPTH, WAVELET and the counts are any numbers below 2^32; INTRA is 0 or 1; a length is at
+//! W, H, DEPTH, WAVELET and the counts are any numbers below 2^32, and so are the slices ACROSS and DOWN, the
+//! fraction of bytes and the matrix M0 to M12, which is always given whole; INTRA is 0 or 1; a length is at
 //! most 2^25. C0 C1 ... are the whole coefficient plane, so their number is its length. Every plane
 //! a job may write starts filled with 7, so that a plane left unchanged can be seen.
 //!
@@ -24,6 +26,7 @@
 //! unpack:      coefficients: ...
 //! synthesise:  work: ...          samples: ...
 //! decode:      coefficients: ...  work: ...     samples: ...
+//! low_delay:   luma: ...          C1: ...       C2: ...
 //! ```
 //!
 //! Jobs for `reference analyse FILE`, where V0 V1 ... are the whole padded plane, each number at most
@@ -37,7 +40,8 @@
 //! answer 1, 2, 3 or 5, only `status N place 0`.
 
 use crate::params::{Answer, Parameters};
-use crate::{analyse, decode, synthesise, unpack, ANALYSIS_LIMIT};
+use crate::{analyse, decode, synthesise, unpack, unpack_low_delay, ANALYSIS_LIMIT};
+use crate::{LowDelay, SlicedPicture};
 use std::fmt::Display;
 use std::str::FromStr;
 
@@ -47,12 +51,13 @@ pub const INITIAL_ENTRY: i32 = 7;
 /// The longest plane a job may ask for.
 const MAX_LENGTH: usize = 1 << 25;
 
-/// The answers to a file of unpack, synthesise and decode jobs, or what is wrong with the file.
+/// The answers to a file of unpack, synthesise, decode and low_delay jobs, or what is wrong with the file.
 pub fn run_jobs(text: &str) -> Result<String, String> {
     run_lines(text, |name, words| match name {
         "unpack" => unpack_job(words),
         "synthesise" => synthesise_job(words),
         "decode" => decode_job(words),
+        "low_delay" => low_delay_job(words),
         _ => Err(format!("no such job: {name}")),
     })
 }
@@ -121,6 +126,21 @@ fn decode_job(words: &mut Words) -> Result<String, String> {
         + &plane_line("samples", &samples))
 }
 
+/// The answer to a low_delay job.
+fn low_delay_job(words: &mut Words) -> Result<String, String> {
+    let p = words.low_delay_parameters()?;
+    let mut luma = words.plane("LUMA_LENGTH")?;
+    let mut first_chroma = words.plane("C1_LENGTH")?;
+    let mut second_chroma = words.plane("C2_LENGTH")?;
+    let bytes = words.bytes()?;
+    words.end()?;
+    let answer = unpack_low_delay(&p, &bytes, &mut luma, &mut first_chroma, &mut second_chroma);
+    Ok(status_line(&answer)
+        + &plane_line("luma", &luma)
+        + &plane_line("C1", &first_chroma)
+        + &plane_line("C2", &second_chroma))
+}
+
 /// The answer to an analyse job.
 fn analyse_job(words: &mut Words) -> Result<String, String> {
     let p = words.transform_parameters()?;
@@ -184,14 +204,42 @@ impl Words<'_> {
     /// W H DEPTH WAVELET INTRA and the ten codeblock counts.
     fn unpack_parameters(&mut self) -> Result<Parameters, String> {
         let mut p = self.transform_parameters()?;
-        p.intra = match self.number::<u32>("INTRA")? {
-            0 => false,
-            1 => true,
-            other => return Err(format!("INTRA is neither 0 nor 1: {other}")),
-        };
+        p.intra = self.intra()?;
         for level in 0..5 {
             p.codeblocks_across[level] = self.number("a codeblock count")?;
             p.codeblocks_down[level] = self.number("a codeblock count")?;
+        }
+        Ok(p)
+    }
+
+    /// INTRA.
+    fn intra(&mut self) -> Result<bool, String> {
+        match self.number::<u32>("INTRA")? {
+            0 => Ok(false),
+            1 => Ok(true),
+            other => Err(format!("INTRA is neither 0 nor 1: {other}")),
+        }
+    }
+
+    /// LUMA_W to DENOMINATOR and the matrix.
+    fn low_delay_parameters(&mut self) -> Result<LowDelay, String> {
+        let mut p = LowDelay {
+            picture: SlicedPicture {
+                luma_width: self.number("LUMA_W")?,
+                luma_height: self.number("LUMA_H")?,
+                chroma_width: self.number("CHROMA_W")?,
+                chroma_height: self.number("CHROMA_H")?,
+                depth: self.number("DEPTH")?,
+                intra: self.intra()?,
+                slices_across: self.number("ACROSS")?,
+                slices_down: self.number("DOWN")?,
+                matrix: [0; 13],
+            },
+            numerator: self.number("NUMERATOR")?,
+            denominator: self.number("DENOMINATOR")?,
+        };
+        for entry in &mut p.picture.matrix {
+            *entry = self.number("a matrix entry")?;
         }
         Ok(p)
     }

@@ -1,23 +1,28 @@
 //! A plain reference decoder for Dirac wavelet pictures.
 //!
-//! It states the rules of document 01, and of document 02's requests One and Three, as directly as it can,
-//! and is used to judge other decoders: clarity comes before speed. Intermediate numbers have 64 or 128 bits
-//! and never wrap.
+//! It states the rules of document 01, and of document 02's requests One, Three and Four, as directly as it
+//! can, and is used to judge other decoders: clarity comes before speed. Intermediate numbers have 64 or 128
+//! bits and never wrap.
 //!
-//! The three jobs are [`unpack()`], [`synthesise`] and [`decode`]; [`analyse`] is the forward
-//! transform; [`mod@encode`] makes bodies for tests; [`recording`] reads and writes recordings;
-//! [`jobs`] is the command's plain text job format. It depends on nothing: what chooses stored jobs and
-//! recordings is the crate `vectors` above it.
+//! The three jobs are [`unpack()`], [`synthesise`] and [`decode`]; [`unpack_low_delay`] is a fourth, for
+//! pictures of slices; [`analyse`] is the forward transform; [`mod@encode`] makes bodies for tests and
+//! [`mod@encode_low_delay`] slices; [`recording`] reads and writes recordings; [`jobs`] is the command's plain
+//! text job format. It depends on nothing: what chooses stored jobs and recordings is the crate `vectors` above
+//! it.
 
 pub mod codes;
 pub mod encode;
+pub mod encode_low_delay;
 pub mod jobs;
+pub mod low_delay;
 pub mod params;
 pub mod recording;
 pub mod transform;
 pub mod unpack;
 
 pub use encode::{encode_body, quantise, quantise_plane, EncodeOptions, Rounding, SubbandOptions};
+pub use encode_low_delay::{encode_low_delay, quantise_low_delay, QuantisedPicture, SliceOptions};
+pub use low_delay::{unpack_low_delay, LowDelay, SlicedPicture};
 pub use params::{Answer, Parameters};
 pub use recording::{read_recording, write_recording, Entry};
 pub use transform::Analysis;

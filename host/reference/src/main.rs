@@ -6,7 +6,8 @@ use std::process::ExitCode;
 const USAGE: &str = "usage: reference COMMAND FILE
 
   reference decode FILE    print what a recording decodes to
-  reference jobs FILE      answer the unpack, synthesise and decode jobs of a text file
+  reference jobs FILE      answer the unpack, synthesise, decode and low_delay jobs of a
+                           text file
   reference analyse FILE   answer the analyse jobs of a text file
 
 A job file has one job a line; # starts a comment:
@@ -16,10 +17,14 @@ A job file has one job a line; # starts a comment:
   synthesise W H DEPTH WAVELET WORK_LENGTH SAMPLES_LENGTH C0 C1 ...
   decode W H DEPTH WAVELET INTRA A0 D0 A1 D1 A2 D2 A3 D3 A4 D4
          COEFFICIENTS_LENGTH WORK_LENGTH SAMPLES_LENGTH BYTES
+  low_delay LUMA_W LUMA_H CHROMA_W CHROMA_H DEPTH INTRA ACROSS DOWN
+         NUMERATOR DENOMINATOR M0 M1 M2 M3 M4 M5 M6 M7 M8 M9 M10 M11 M12
+         LUMA_LENGTH C1_LENGTH C2_LENGTH BYTES
   analyse W H DEPTH WAVELET V0 V1 ...
 
 Numbers are decimal; BYTES is hexadecimal, or - for none. A and D are codeblocks
-across and down at levels 0 to 4. Planes start filled with 7.
+across and down at levels 0 to 4. ACROSS and DOWN are slices, M0 to M12 the
+matrix. Planes start filled with 7.
 
 Exit status: 0 done, 1 a file cannot be read, 2 a wrong command line.
 ";

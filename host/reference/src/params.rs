@@ -1,7 +1,8 @@
 //! Parameters, statuses, sizes, subbands, and the checks made before any work.
 //!
 //! States document 01, "What the decoder covers", "Refusal numbers" (1 to 5)
-//! and "Sizes and the coefficient plane". Status 12 is document 02's, request One.
+//! and "Sizes and the coefficient plane". Status 12 is document 02's, request One; 13 and 14 are its request
+//! Four.
 
 /// Status 0: accepted.
 pub const ACCEPTED: u32 = 0;
@@ -30,6 +31,11 @@ pub const BAD_RECORDING: u32 = 11;
 /// Status 12: a recording's entry is accepted, but doesn't use its whole body (document 02, "Left-over
 /// bytes are a fault").
 pub const LEFT_OVER_BYTES: u32 = 12;
+/// Status 13: a slice count, the fraction of bytes or a used matrix entry is bad (document 02, "Low delay
+/// slices").
+pub const BAD_SLICES: u32 = 13;
+/// Status 14: a slice's luma length exceeds the bits left (document 02, "Low delay slices").
+pub const BAD_LUMA_LENGTH: u32 = 14;
 
 /// The largest quantiser index that is accepted.
 pub const MAX_QUANTISER: u64 = 115;

@@ -97,7 +97,7 @@ pub fn codeblock_start(size: usize, k: usize, count: usize) -> usize {
 }
 
 /// Predicts level 0 in place, or status 9 (document 01, "One subband").
-fn predict(p: &Parameters, band: &Subband, plane: &mut [i32]) -> Result<(), u32> {
+pub fn predict(p: &Parameters, band: &Subband, plane: &mut [i32]) -> Result<(), u32> {
     let row_width = padded_width(p);
     for y in 0..band.height {
         for x in 0..band.width {

@@ -3,6 +3,7 @@
 use std::path::Path;
 use std::process::ExitCode;
 use vectors::factors::factors;
+use vectors::low_delay_vectors::low_delay_vectors;
 use vectors::recording_vectors::{recordings, Recording};
 use vectors::samples::samples;
 use vectors::synthesis_vectors::synthesis_vectors;
@@ -16,6 +17,8 @@ const USAGE: &str = "usage: vectors COMMAND PATH..
                            that is expected of it
   vectors unpack-vectors STDIN_FILE STDOUT_FILE
                            the same for crates/unpack_vectors
+  vectors low-delay-vectors STDIN_FILE STDOUT_FILE
+                           the same for crates/low_delay_vectors
   vectors recordings DIR   write vectors/recordings: recordings and what they decode to
   vectors samples DIR      the same for samples
   vectors factors FILE     write crates/coefficients/src/factors.rt: the quantiser's factors
@@ -53,6 +56,7 @@ fn read_request(words: &[&str]) -> Result<Request, String> {
     match words {
         ["synthesis-vectors", stdin, stdout] => Ok(vectors(synthesis_vectors(), stdin, stdout)),
         ["unpack-vectors", stdin, stdout] => Ok(vectors(unpack_vectors(), stdin, stdout)),
+        ["low-delay-vectors", stdin, stdout] => Ok(vectors(low_delay_vectors(), stdin, stdout)),
         ["recordings", folder] => Ok(recordings_in(recordings(), folder)),
         ["samples", folder] => Ok(recordings_in(samples(), folder)),
         ["factors", file] => Ok(Request::Factors {

@@ -6,12 +6,18 @@ use bench::components::{
 };
 use bench::decoders::{check, measure, Effort, Planes, PROVED};
 use bench::exact::LargeAndSmall;
-use bench::instructions::{collected, valgrind_version, CountReport, Counts};
+use bench::instructions::{
+    collected, valgrind_version, CountReport, Counts, SliceCountReport, SliceCounts,
+};
 use bench::libavcodec::Libavcodec;
 use bench::picture;
 use bench::refusals::{self, calls};
-use bench::report::{head_cells, CodeblockRow, ExactRow, RefusalRow, Report, Row};
+use bench::report::{
+    head_cells, slice_head_cells, CodeblockRow, ExactRow, GrowthRow, RefusalRow, Report, Row,
+};
+use bench::slices::{self, counted_plans, full_plans, SlicePlan, Sliced, GROWING_SLICES};
 use bench::timing::{take_turns, Timed};
+use ffmpeg::stream::ChromaFormat;
 use std::cell::RefCell;
 use std::path::Path;
 use vectors::offsets::shows_rule;
@@ -66,6 +72,99 @@ fn one_to_many() -> [Component; 4] {
         Codeblocks::written_out(40, 50),
     ]
     .map(divided)
+}
+
+/// A small low delay picture for each chroma format.
+fn small_slices() -> Vec<Sliced> {
+    let plan = |chroma| SlicePlan::new((64, 48), chroma);
+    Sliced::of(&ChromaFormat::ALL.map(plan)).unwrap()
+}
+
+#[test]
+fn all_decoders_agree_on_slices() {
+    let pictures = small_slices();
+    for sliced in &pictures {
+        assert_eq!(slices::check(sliced), Ok(()));
+        assert!((sliced.bits_a_sample() - 2.5).abs() < 0.1, "{sliced}");
+        assert_eq!(sliced.slices(), "2 x 3");
+    }
+    assert_eq!(
+        Vec::from_iter(pictures.iter().map(Sliced::samples)),
+        [9216, 6144, 4608]
+    );
+}
+
+#[test]
+fn slices_that_libavcodec_misreads_are_not_measured() {
+    let plan = SlicePlan {
+        bits_a_sample: 4.0,
+        slice: (16, 8),
+        ..SlicePlan::new((64, 48), ChromaFormat::HalfWidth)
+    };
+    // Each has 128 bytes.
+    let sliced = Sliced::of(&[plan]).unwrap().remove(0);
+    assert!(slices::check(&sliced)
+        .unwrap_err()
+        .starts_with("libavcodec misreads slices"));
+}
+
+#[test]
+fn more_slices_have_the_same_numbers() {
+    let mut pictures = slices::growing((64, 48));
+    assert_eq!(pictures.len(), GROWING_SLICES.len());
+    assert_eq!(slices::check_growth(&pictures), Ok(()));
+    let times = slices::measure_growth(&pictures, ONE_TURN);
+    assert!(times.len() == pictures.len() && times.iter().all(|&time| time > 0.0));
+    let row = GrowthRow::new(&pictures[2], 3.0, 2.0);
+    let text = Report {
+        growth: vec![row],
+        ..no_report()
+    }
+    .to_string();
+    assert!(text.contains("\n| 4 x 4 | 384 | "), "{text}");
+    assert!(text.contains(" | 3.00 | 1.50 |\n"));
+    // A bit of the first slice's index.
+    pictures[1].picture.bytes[0] ^= 0x40;
+    assert!(slices::check_growth(&pictures).is_err());
+    assert!(slices::measure_growth(&[], ONE_TURN).is_empty());
+}
+
+#[test]
+fn low_delay_pictures_are_measured() {
+    let sliced = small_slices().remove(1);
+    let speeds = slices::measure(&sliced, ONE_TURN);
+    assert_eq!(speeds.libavcodec.is_some(), Libavcodec::version().is_some());
+    assert!(speeds.reference.is_none());
+    let report = Report {
+        slices: vec![Row::of_slices(&sliced, speeds)],
+        ..no_report()
+    };
+    let text = report.to_string();
+    let head = "| 64 x 48 | 4:2:2 | 3 | 1 | 32 x 16 | 2 x 3 | 2.5";
+    assert!(text.contains(head), "{text}");
+    assert_columns(&text);
+}
+
+#[test]
+fn slices_of_all_tables_are_in_range() {
+    let plans = [full_plans(), counted_plans()].concat();
+    assert_eq!(plans.len(), 11 + 2);
+    let across = |plan: &SlicePlan| plan.size.0.div_ceil(plan.slice.0);
+    assert!(plans.iter().all(|plan| across(plan) <= 255));
+}
+
+#[test]
+fn instructions_of_slices_are_counted() {
+    if valgrind_version().is_none() {
+        return;
+    }
+    let program = Path::new(env!("CARGO_BIN_EXE_bench_slices_job"));
+    let sliced = small_slices().remove(0);
+    let counts = SliceCounts::of(&sliced, program).unwrap();
+    assert!(counts.a_sample > 1.0);
+    let text = SliceCountReport(vec![counts]).to_string();
+    assert!(text.contains(&format!("| {} |", slice_head_cells(&sliced).join(" | "))));
+    assert_columns(&text);
 }
 
 #[test]
@@ -267,6 +366,7 @@ fn the_report_has_a_row_for_each_component() {
         ],
         exact: vec![ExactRow::new(&both, both.measure(ONE_TURN))],
         refusals: vec![RefusalRow::new(&calls[0], 0.025)],
+        ..no_report()
     };
     let text = report.to_string();
     assert_eq!(text.matches("| 64 x 48 | 2 | 1 |").count(), 3 + 2 + 2);
@@ -278,7 +378,25 @@ fn the_report_has_a_row_for_each_component() {
     assert!(text.contains("| 1 x 1 | written out | 2.00 | 4.00 | 1.00 |\n"));
     assert!(text.contains("| 16 x 12 | flagged | 5.00 | 12.0 | 2.50 |\n"));
     assert!(text.ends_with("\n| decode | 1 | before any work | 0.025 |\n"));
-    // Every row has a cell for each column.
+    assert_columns(&text);
+}
+
+/// A report without rows.
+fn no_report() -> Report {
+    Report {
+        wavelets: vec![],
+        sizes: vec![],
+        rates: vec![],
+        codeblocks: vec![],
+        slices: vec![],
+        growth: vec![],
+        exact: vec![],
+        refusals: vec![],
+    }
+}
+
+/// Asserts that every row of every table has a cell for each column.
+fn assert_columns(text: &str) {
     let cells = |line: &str| line.matches(" |").count();
     for table in text.split("\n\n").filter(|part| part.starts_with('|')) {
         let columns = table.lines().map(|line| cells(&line.replace("|---", " |")));

@@ -1,6 +1,6 @@
 //! The command line.
 
-use compare::Recording;
+use compare::{LowDelayCase, Recording};
 use reference::read_recording;
 use std::process::{Command, Output};
 
@@ -44,6 +44,31 @@ fn one_case_is_printed_in_full() {
         assert!(text.contains(&format!("\n{job} in the proved library: status ")));
         assert!(text.contains(&format!("\n{job} in the reference: the same\n")));
     }
+}
+
+#[test]
+fn pictures_print_a_table_and_a_verdict() {
+    let (code, text) = outcome(&["--low-delay", "300", "5", "--threads", "2"]);
+    assert_eq!(code, Some(0));
+    assert!(text.starts_with("status                      pictures\n0 accepted "));
+    assert!(text.contains("\n14 luma length "));
+    let last = text.lines().last().unwrap();
+    assert!(last.starts_with("300 pictures, seeds 5 to 304: no difference ("));
+}
+
+#[test]
+fn one_picture_is_printed_in_full() {
+    let (code, text) = outcome(&["--low-delay", "1", "9"]);
+    assert_eq!(code, Some(0));
+    let case = LowDelayCase::from_seed(9);
+    let start = format!("seed 9, kind {:?}\n{}", case.kind, case.job_text());
+    let start = start + "low_delay in the proved library: status ";
+    assert!(text.starts_with(&start), "{text}");
+    for plane in ["luma", "C1", "C2"] {
+        assert!(text.contains(&format!("\n{plane}: ")));
+    }
+    let end = "\nlow_delay in the reference: the same\nseed 9: no difference\n";
+    assert!(text.ends_with(end), "{text}");
 }
 
 #[test]
@@ -126,6 +151,9 @@ fn wrong_command_lines_print_the_usage() {
             "/bin/cat",
         ],
         &["--round-trips", "10", "--program", "/bin/cat"],
+        &["--low-delay"],
+        &["--low-delay", "--round-trips", "10"],
+        &["--low-delay", "10", "--program", "/bin/cat"],
         &["10", "--program", "/bin/cat"],
         &["18446744073709551616"],
     ] {

@@ -1,7 +1,9 @@
 //! The proved library reads and writes nothing but what it is buffers: here each part lies against memory
 //! that may not be touched at all.
 
-use compare::{proved, results, Buffers, Case, Job};
+use compare::{
+    low_delay_result, proved, proved_low_delay, results, Buffers, Case, Job, LowDelayCase,
+};
 use std::ffi::{c_int, c_void};
 use std::ptr::null_mut;
 use std::slice;
@@ -95,6 +97,24 @@ fn nothing_outside_the_planes_and_bytes_is_touched() {
                 let answer = proved(&case.parameters, job, buffers);
                 assert_eq!(answer, expected.answer, "seed {seed}");
             }
+        }
+    }
+}
+
+#[test]
+fn nothing_outside_the_planes_and_bytes_of_a_picture_is_touched() {
+    for seed in 1..=1500 {
+        let case = LowDelayCase::from_seed(seed);
+        let expected = low_delay_result(&case, proved_low_delay);
+        for against_end in [false, true] {
+            let mut bytes = Fenced::new(&case.job.bytes, against_end);
+            let mut planes = case
+                .job
+                .lengths
+                .map(|length| Fenced::new(&vec![7; length], against_end));
+            let lent = planes.each_mut().map(Fenced::part);
+            let answer = proved_low_delay(&case.job.parameters, bytes.part(), lent);
+            assert_eq!(answer, expected.answer, "seed {seed}");
         }
     }
 }

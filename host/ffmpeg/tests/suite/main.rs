@@ -3,6 +3,8 @@
 mod comparison;
 mod eligibility;
 mod generator;
+mod low_delay;
 mod offsets;
 mod setting;
+mod stored;
 mod streams;

@@ -1,9 +1,10 @@
 //! Dirac streams.
 
 use ffmpeg::peer::ivf_file;
-use ffmpeg::stream::{BitDepth, Stream};
+use ffmpeg::stream::{BitDepth, ChromaFormat, Format, Stream};
 use reference::Parameters;
 use vectors::pieces::plain;
+use vectors::slices::{sliced, with_matrix};
 
 /// A parse info header.
 fn parse_info(parse_code: u8, next: u8, previous: u8) -> Vec<u8> {
@@ -18,7 +19,7 @@ fn a_stream_is_its_data_units() {
         codeblocks_across: [1, 2, 9, 9, 9],
         ..plain(2, 2, 1, 3, true)
     };
-    let mut stream = Stream::new(2, 2, BitDepth::Eight);
+    let mut stream = Stream::new(Format::full(2, 2, BitDepth::Eight));
     let offset = stream.add_picture(0x0102_0304, &p, [&[0xAA, 0xBB], &[0xCC], &[0xDD]]);
 
     let mut expected = parse_info(0x00, 13 + 4, 0);
@@ -41,7 +42,7 @@ fn a_stream_is_its_data_units() {
 #[test]
 fn a_picture_that_is_not_intra_names_a_flat_reference() {
     let p = plain(130, 2, 1, 3, false);
-    let mut stream = Stream::new(130, 2, BitDepth::Eight);
+    let mut stream = Stream::new(Format::full(130, 2, BitDepth::Eight));
     stream.add_reference();
     stream.add_picture(2, &p, [&[0xAA], &[0xBB], &[0xCC]]);
     let units = stream.end();
@@ -64,6 +65,41 @@ fn a_picture_that_is_not_intra_names_a_flat_reference() {
     picture.extend([0b0000_0100, 0b1100_1001, 0b0010_0110]);
     picture.extend([0xAA, 0xBB, 0xCC]);
     assert_eq!(units[2], picture);
+}
+
+#[test]
+fn a_low_delay_picture_has_its_slices_and_its_matrix() {
+    let p = sliced((2, 4), (1, 2), 1, true, (2, 1), (3, 2));
+    let p = with_matrix(&p, &[2, 1, 0, 3, 127]);
+    let format = Format {
+        width: 2,
+        height: 4,
+        chroma: ChromaFormat::HalfSize,
+        bit_depth: BitDepth::Eight,
+    };
+    assert_eq!(format.sizes(), [(2, 4), (1, 2), (1, 2)]);
+    let mut stream = Stream::new(format);
+    let offset = stream.add_low_delay(5, &p, 3, &[0xAA, 0xBB, 0xCC]);
+    let units = stream.end();
+    assert_eq!(offset, units[0].len() + 13);
+    // 2, 2, 0, 0, 0; yes, 2, 4; yes, 2; four times no; yes, 1; no; 0.
+    assert_eq!(
+        units[0][13..],
+        [0b0110_1111, 0b1101_1000, 0b1110_1100, 0b0010_0101]
+    );
+
+    let mut picture = parse_info(0xC8, 13 + 12, units[0].len() as u8);
+    picture.extend([0, 0, 0, 5]);
+    // 3, 1; 2, 1; 3, 2; yes; 2, 1, 0, 3.
+    picture.extend([
+        0b0000_1001,
+        0b0110_0100,
+        0b0010_1110,
+        0b1100_1100,
+        0b0010_0000,
+    ]);
+    picture.extend([0xAA, 0xBB, 0xCC]);
+    assert_eq!(units[1], picture);
 }
 
 #[test]

@@ -3,7 +3,8 @@
 use reference::{Answer, Parameters};
 pub use vectors::pieces::{bits, plain, subband_bytes};
 pub use vectors::random::Random;
-pub use vectors::runs::{run_decode, run_synthesise, run_unpack};
+pub use vectors::runs::{run_decode, run_low_delay, run_synthesise, run_unpack};
+pub use vectors::slices::{slice_bytes, sliced, uniform_slices};
 
 /// The same parameters with these codeblock counts at one level.
 pub fn with_codeblocks(p: &Parameters, level: usize, across: u32, down: u32) -> Parameters {

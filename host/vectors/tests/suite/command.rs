@@ -17,6 +17,7 @@ fn exit_statuses() {
         &["recordings"],
         &["samples", "a", "b"],
         &["unpack-vectors", "a"],
+        &["low-delay-vectors", "a"],
         &["factors"],
         &["unknown", "file"],
     ] {

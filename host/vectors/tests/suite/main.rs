@@ -6,6 +6,7 @@ mod common;
 mod difference_recordings;
 mod factors;
 mod ffmpeg_recordings;
+mod low_delay_vectors;
 mod offsets;
 mod recording_vectors;
 mod samples;
