@@ -117,7 +117,7 @@ fn read_parts(
         ⌝ }
 {
     let picture = parts.picture;
-    let luma_part = SlicePart {
+    let part = SlicePart {
         picture,
         slice: parts.number,
         holder: Holder::Luma,
@@ -128,22 +128,12 @@ fn read_parts(
             origin: parts.start,
         },
     };
-    let progress = read_part(
-        luma,
-        first,
-        second,
-        luma_part,
-        bytes,
-        run,
-        table,
-        small,
-        factors,
-    );
+    let progress = read_part(luma, first, second, part, bytes, run, table, small, factors);
     let Progress::At { bit: _ } = progress else {
         return progress;
     };
     let end = 8 * bytes.len();
-    let chroma_part = SlicePart {
+    let rest = SlicePart {
         picture,
         slice: parts.number,
         holder: Holder::Both,
@@ -154,17 +144,7 @@ fn read_parts(
             origin: parts.start,
         },
     };
-    let last = read_part(
-        luma,
-        first,
-        second,
-        chroma_part,
-        bytes,
-        run,
-        table,
-        small,
-        factors,
-    );
+    let last = read_part(luma, first, second, rest, bytes, run, table, small, factors);
     let Progress::At { bit: _ } = last else {
         return last;
     };
