@@ -10,7 +10,9 @@ use Rattle.slices.specs.Areas.{lumaGrid, chromaGrid}
 use Rattle.slices.specs.Bounds.{Indexed}
 use Rattle.slices.specs.Parts.{Parts, part, ends, refused}
 use Rattle.slices.specs.declared.parameters.Picture.{Picture}
+use Rattle.slices.specs.declared.parameters.Holder.{Holder}
 use Rattle.slices.specs.declared.parameters.Holder.the-variants.{Luma, Both}
+use Rattle.slices.specs.declared.parts.SlicePart.{SlicePart}
 use Rattle.low_delay.specs.Job.{predictedPlane}
 use Rattle.low_delay.specs.declared.parameters.LowDelay.{LowDelay}
 use Rattle.low_delay.specs.declared.slice.TwoParts.{TwoParts}
@@ -36,6 +38,17 @@ partsOf bytes start (Read index from middle) =
     part index (record { bytes = bytes; origin = start; from = from; to = middle }) Luma
     (part index (record { bytes = bytes; origin = start; from = middle; to = 8 * length bytes }) Both
     (ends (start + 8 * length bytes)))
+
+-- A part of a slice, from a bit to a bit of its bytes.
+abbrev pub partOf : TwoParts → Holder → ℕ → ℕ → SlicePart
+partOf parts holder bit end =
+    record {
+      picture = parts .picture;
+      slice = parts .number;
+      holder = holder;
+      index = parts .index;
+      span = record { bit = bit; end = end; origin = parts .start };
+    }
 
 -- The parts lie in a slice of so many bytes, and the index of every subband is in range.
 pub record SoundParts (p : Picture) (size index from middle : ℕ) : Type 0 where

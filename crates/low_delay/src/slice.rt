@@ -1,5 +1,6 @@
 // Document 02, request Four: one low delay slice: its bytes, its header, and its two parts.
 ghost use Prim.Native.Nat.{ℕ, suc, _+_, _*_, _<_, _^_};
+ghost use mathlib.Core.Path.{_≡_};
 ghost use lib.ListN.{length};
 ghost use Rattle.lookups.specs.Lookups.{KnowsCodes};
 ghost use Rattle.coefficients.specs.Factors.{KnowsFactors};
@@ -10,7 +11,7 @@ ghost use Rattle.slices.specs.Parts.{partsValues};
 ghost use Rattle.slices.specs.Bounds.{Checked, Lengths, KnowsSmall};
 ghost use Rattle.slices.specs.Reads.{Blank, Left};
 ghost use Rattle.low_delay.specs.Slices.{sliceStart, slice};
-ghost use Rattle.low_delay.specs.Bounds.{SoundFraction, SoundParts, announced};
+ghost use Rattle.low_delay.specs.Bounds.{SoundFraction, SoundParts, announced, partOf};
 use crate::headers::Header;
 use crate::headers::read_header;
 use crate::parameters::LowDelay;
@@ -116,39 +117,36 @@ fn read_parts(
         (goesOn at (planesOf (now (luma .entry)) (now (first .entry)) (now (second .entry))))))
         ⌝ }
 {
-    let picture = parts.picture;
-    let part = SlicePart {
-        picture,
-        slice: parts.number,
-        holder: Holder::Luma,
-        index: parts.index,
-        span: Span {
-            bit: parts.from,
-            end: parts.middle,
-            origin: parts.start,
-        },
-    };
+    let part = part_of(parts, Holder::Luma, parts.from, parts.middle);
     let progress = read_part(luma, first, second, part, bytes, run, table, small, factors);
     let Progress::At { bit: _ } = progress else {
         return progress;
     };
     let end = 8 * bytes.len();
-    let rest = SlicePart {
-        picture,
-        slice: parts.number,
-        holder: Holder::Both,
-        index: parts.index,
-        span: Span {
-            bit: parts.middle,
-            end,
-            origin: parts.start,
-        },
-    };
+    let rest = part_of(parts, Holder::Both, parts.middle, end);
     let last = read_part(luma, first, second, rest, bytes, run, table, small, factors);
     let Progress::At { bit: _ } = last else {
         return last;
     };
     Progress::At {
         bit: parts.start + end,
+    }
+}
+
+// A part of a slice, from a bit to a bit of its bytes.
+fn part_of(parts: TwoParts, holder: Holder, bit: usize, end: usize) -> SlicePart
+    ensures { λ r. ⌜ r ≡ partOf parts holder bit end ⌝ }
+{
+    let picture = parts.picture;
+    SlicePart {
+        picture,
+        slice: parts.number,
+        holder,
+        index: parts.index,
+        span: Span {
+            bit,
+            end,
+            origin: parts.start,
+        },
     }
 }
