@@ -11,12 +11,12 @@ use crate::input::Lengths;
 use crate::input::lengths_of;
 use crate::input::parameters_of;
 use crate::output::print_answer;
-use crate::output::print_plane;
 use libc::STDIN_FILENO;
 use low_delay::parameters::LowDelay;
 use low_delay::unpack_low_delay;
 use vector_io::bad_input;
 use vector_io::fill_plane;
+use vector_io::print_row;
 
 // Runs the jobs of the input. A proved loop has to end, so this one counts its turns down, from a number that no run uses up.
 fn main() {
@@ -110,7 +110,7 @@ fn unpack_and_print(
     fill_plane(second, 7);
     let answer = unpack_low_delay(p, bytes, luma, first, second);
     print_answer(p, bytes.len(), answer);
-    print_plane(luma);
-    print_plane(first);
-    print_plane(second);
+    print_row(luma);
+    print_row(first);
+    print_row(second);
 }

@@ -1,4 +1,4 @@
-// The four lines that a job gives: what it was with its answer, and its planes.
+// The line that says what a job was, with its answer.
 ghost use Prim.Native.Nat.{_+_, _≤_};
 ghost use lib.ListN.{length};
 use component::parameters::Answer;
@@ -6,7 +6,6 @@ use libc::STDOUT_FILENO;
 use low_delay::parameters::LowDelay;
 use slices::parameters::Picture;
 use vector_io::end_line;
-use vector_io::end_with_row;
 use vector_io::put_answer;
 use vector_io::put_named;
 
@@ -19,15 +18,6 @@ pub(crate) fn print_answer(p: LowDelay, bytes: usize, answer: Answer) {
     let data = put_named(&mut line, denominator, b" bytes ", bytes as u64);
     let place = put_answer(&mut line, data, answer);
     let end = end_line(&mut line, place);
-    io::write_all(STDOUT_FILENO, &line[..end]);
-}
-
-// Writes a whole plane as one row.
-pub(crate) fn print_plane(plane: &[i32])
-    requires { ⌜ length (now plane) ≤ 4096 ⌝ }
-{
-    let mut line = io::large_buffer();
-    let end = end_with_row(&mut line, 0, plane);
     io::write_all(STDOUT_FILENO, &line[..end]);
 }
 

@@ -1,11 +1,10 @@
 // The text of the output: a line for each job, and a line for each row of samples.
 ghost use Prim.Native.Nat.{_≤_};
-ghost use lib.ListN.{length};
 use component::parameters::Answer;
 use component::parameters::Parameters;
 use libc::STDOUT_FILENO;
 use vector_io::end_line;
-use vector_io::end_with_row;
+use vector_io::print_row;
 use vector_io::put_answer;
 use vector_io::put_job;
 
@@ -28,13 +27,4 @@ pub(crate) fn print_rows(samples: &[i32], width: usize)
         print_row(&samples[start..end]);
         start = end;
     }
-}
-
-// Writes a row as a line.
-fn print_row(row: &[i32])
-    requires { ⌜ length (now row) ≤ 4096 ⌝ }
-{
-    let mut line = io::large_buffer();
-    let end = end_with_row(&mut line, 0, row);
-    io::write_all(STDOUT_FILENO, &line[..end]);
 }

@@ -9,11 +9,11 @@ use crate::input::byte_count;
 use crate::input::parameters_of;
 use crate::input::plane_length;
 use crate::output::print_answer;
-use crate::output::print_plane;
 use component::parameters::Parameters;
 use libc::STDIN_FILENO;
 use vector_io::bad_input;
 use vector_io::fill_plane;
+use vector_io::print_row;
 
 // Runs the jobs of the input. A proved loop has to end, so this one counts its turns down, from a number that no run uses up.
 fn main() {
@@ -64,5 +64,5 @@ fn unpack_and_print(p: Parameters, bytes: &[u8], plane: &mut [i32])
     fill_plane(plane, 7);
     let answer = unpack::unpack(p, bytes, plane);
     print_answer(p, bytes.len(), answer);
-    print_plane(plane);
+    print_row(plane);
 }

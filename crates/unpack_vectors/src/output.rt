@@ -1,11 +1,8 @@
-// The two lines that a job gives: what it was with its answer, and its plane.
-ghost use Prim.Native.Nat.{_≤_};
-ghost use lib.ListN.{length};
+// The line that says what a job was, with its answer.
 use component::parameters::Answer;
 use component::parameters::Parameters;
 use libc::STDOUT_FILENO;
 use vector_io::end_line;
-use vector_io::end_with_row;
 use vector_io::put_answer;
 use vector_io::put_job;
 use vector_io::put_named;
@@ -18,14 +15,5 @@ pub(crate) fn print_answer(p: Parameters, bytes: usize, answer: Answer) {
     let data = put_named(&mut line, intra, b" bytes ", bytes as u64);
     let place = put_answer(&mut line, data, answer);
     let end = end_line(&mut line, place);
-    io::write_all(STDOUT_FILENO, &line[..end]);
-}
-
-// Writes the whole plane as one row.
-pub(crate) fn print_plane(plane: &[i32])
-    requires { ⌜ length (now plane) ≤ 4096 ⌝ }
-{
-    let mut line = io::large_buffer();
-    let end = end_with_row(&mut line, 0, plane);
     io::write_all(STDOUT_FILENO, &line[..end]);
 }

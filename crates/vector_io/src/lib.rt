@@ -91,3 +91,12 @@ pub fn end_with_row(line: &mut [u8; 65536], at: usize, row: &[i32]) -> usize
 {
     put_row(line, at, row)
 }
+
+// Writes a row as a line.
+pub fn print_row(row: &[i32])
+    requires { ⌜ length (now row) ≤ 4096 ⌝ }
+{
+    let mut line = io::large_buffer();
+    let end = end_with_row(&mut line, 0, row);
+    io::write_all(STDOUT_FILENO, &line[..end]);
+}
