@@ -1,4 +1,5 @@
 // Document 01, "One subband": codeblocks, with their flags.
+#![tactic(auto)]
 ghost use Rattle.std.specs.Prelude.{◌≡◌, cond, ◌+◌, ◌*◌, ◌≤◌, ◌<◌};
 ghost use Rattle.component.specs.Reciprocal.{reciprocal_of};
 ghost use Rattle.coefficients.specs.Scaling.{scale_of};
@@ -17,7 +18,7 @@ use exp_golomb::bits::{Bit, take_bit};
 use rectangles::read_values;
 
 // The codeblocks of a subband: its rectangle of a plane whose rows are a stride apart, and their counts across and down.
-#[derive(Drop)]
+#[derive(Clone, Copy)]
 pub struct CodeblockGrid {
     pub stride: usize,
     pub subband: Subband,
@@ -26,14 +27,14 @@ pub struct CodeblockGrid {
 }
 
 // How many codeblocks have been begun, and how many values of the last of them have been read.
-#[derive(Drop)]
+#[derive(Clone, Copy)]
 pub struct Position {
     pub begun: usize,
     pub values: usize,
 }
 
 // Where reading stands among the codeblocks, how far it has come, and whether it stopped for want of bits.
-#[derive(Drop)]
+#[derive(Clone, Copy)]
 pub struct Reached {
     pub position: Position,
     pub progress: Progress,
@@ -41,7 +42,7 @@ pub struct Reached {
 }
 
 // A codeblock: its column among the codeblocks, the column of the subband that it goes up to, and its rectangle.
-#[derive(Drop)]
+#[derive(Clone, Copy)]
 pub struct PlacedCodeblock {
     pub x: usize,
     pub right: usize,
@@ -49,7 +50,7 @@ pub struct PlacedCodeblock {
 }
 
 // What a flag says: whether it leaves its codeblock zero; the next bit; and whether it is missing.
-#[derive(Drop)]
+#[derive(Clone, Copy)]
 pub struct Flag {
     pub skipped: bool,
     pub bit: usize,

@@ -8,7 +8,7 @@ use crate::factors::FACTORS;
 use base::signed;
 
 // What a size is dequantised by.
-#[derive(Drop)]
+#[derive(Clone, Copy)]
 pub struct Quantiser {
     pub factor: u64,
     pub offset: u64,

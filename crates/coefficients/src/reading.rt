@@ -1,7 +1,7 @@
 // What reading is about: how far it has come, where it stands in its data, and what it fills.
 
 // On, at a bit of the data; or refused, with the refusal's number and the bit at which it arose, counted from the start of all the bytes.
-#[derive(Drop)]
+#[derive(Clone, Copy)]
 pub enum Progress {
     At { bit: usize },
     Refused { status: u32, bit: usize },
@@ -9,7 +9,7 @@ pub enum Progress {
 
 // A position in data: the next bit, and the bit at which the data end. Past data of a stated length bits read as 1; other data are what is at
 // hand of longer ones. The data's first bit is bit `origin` of all the bytes.
-#[derive(Drop)]
+#[derive(Clone, Copy)]
 pub struct Cursor {
     pub bit: usize,
     pub end: usize,
@@ -18,7 +18,7 @@ pub struct Cursor {
 }
 
 // How many values were read, how far reading has come, and whether reading stopped for want of bits.
-#[derive(Drop)]
+#[derive(Clone, Copy)]
 pub struct Portion {
     pub count: usize,
     pub progress: Progress,
@@ -26,7 +26,7 @@ pub struct Portion {
 }
 
 // A rectangle of a plane: its first entry, and how far apart its rows are.
-#[derive(Drop)]
+#[derive(Clone, Copy)]
 pub struct Rectangle {
     pub start: usize,
     pub stride: usize,

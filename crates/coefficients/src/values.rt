@@ -19,7 +19,7 @@ use exp_golomb::codes::{Number, read_signed, status};
 use lookups::{first_bits, first_value, is_window, lookup_at, starts_with_ones, window};
 
 // Where values go: value i to entry start + i + floor(i · reciprocal / 2^24) · gap, for i below count.
-#[derive(Drop)]
+#[derive(Clone, Copy)]
 pub struct Layout {
     pub start: usize,
     pub count: usize,
@@ -28,7 +28,7 @@ pub struct Layout {
 }
 
 // How many values were read, and how many bits they took.
-#[derive(Drop)]
+#[derive(Clone, Copy)]
 pub struct Batch {
     pub count: usize,
     pub bits: usize,

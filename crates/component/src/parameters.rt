@@ -1,7 +1,7 @@
 // Document 01, "What the decoder covers": the parameters of a component, and what a job answers.
 
 // The parameters of a component. Any value can be passed; a job refuses what is out of range.
-#[derive(Drop)]
+#[derive(Clone, Copy)]
 pub struct Parameters {
     pub width: u32,
     pub height: u32,
@@ -14,14 +14,14 @@ pub struct Parameters {
 }
 
 // What a job answers: 0 or a refusal's number, and its place.
-#[derive(Drop)]
+#[derive(Clone, Copy)]
 pub struct Answer {
     pub status: u32,
     pub place: usize,
 }
 
 // The jobs that take parameters.
-#[derive(Drop)]
+#[derive(Clone, Copy)]
 pub enum Job {
     Unpack,
     Synthesise,
@@ -29,7 +29,7 @@ pub enum Job {
 }
 
 // The lengths of the planes of a job. Unpack has the coefficients alone, and the other two are not looked at.
-#[derive(Drop)]
+#[derive(Clone, Copy)]
 pub struct Lengths {
     pub coefficients: usize,
     pub work: usize,

@@ -5,7 +5,7 @@ ghost use Rattle.component.specs.Subbands.{subband_count, orientation_of, left_o
 use crate::sizes::band_size;
 
 // A subband's level, and the rectangle of the coefficient plane that it takes.
-#[derive(Drop)]
+#[derive(Clone, Copy)]
 pub struct Subband {
     pub level: usize,
     pub left: usize,

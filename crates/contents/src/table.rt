@@ -16,7 +16,7 @@ const ENTRIES_MOST: usize = 16;
 const ENTRY_SIZE: usize = 26;
 
 // What an entry says: the parameters of its component, where its body starts in the file, and how many bytes that has.
-#[derive(Drop)]
+#[derive(Clone, Copy)]
 pub struct Entry {
     pub parameters: Parameters,
     pub start: usize,

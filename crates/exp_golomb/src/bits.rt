@@ -3,7 +3,7 @@ ghost use Rattle.std.specs.Prelude.{◌≡◌};
 ghost use Rattle.exp_golomb.specs.Bits.{present, take_bit};
 
 // What taking a bit finds: the bit, with the next one's position, or nothing.
-#[derive(Drop)]
+#[derive(Clone, Copy)]
 pub enum Bit {
     Taken { bit: u64, next: usize },
     Absent,

@@ -7,7 +7,7 @@ use base::limits::DATA_BITS_MOST;
 use base::status::{ACCEPTED, BYTES_END_EARLY, CODE_TOO_LONG};
 
 // What reading a number finds. `next` is the bit after those taken, which are never past the end.
-#[derive(Drop)]
+#[derive(Clone, Copy)]
 pub enum Number {
     // A number that was read: its size, and whether it is below 0.
     Read { size: u32, minus: bool, next: usize },

@@ -6,7 +6,7 @@ ghost use Rattle.filters.specs.Bounds.{BoundsFit, stays_small, target_after, sou
 use crate::filter::LiftingStep;
 
 // How large the numbers at the even and at the odd elements of a pass may be.
-#[derive(Drop)]
+#[derive(Clone, Copy)]
 pub struct Bounds {
     pub even: u64,
     pub odd: u64,

@@ -5,7 +5,7 @@ ghost use Rattle.filters.specs.Lifting.{rounding};
 // A lifting step: whether it changes the even elements, whether it adds, its first offset, its taps and its scale; and its gain, which is
 // the sum of its taps' sizes. The first offset D is counted from −3 where even elements change and from −4 where odd ones do, so that it is never
 // below 0.
-#[derive(Drop)]
+#[derive(Clone, Copy)]
 pub struct LiftingStep {
     pub even: bool,
     pub adds: bool,
@@ -17,7 +17,7 @@ pub struct LiftingStep {
 }
 
 // A filter: its steps, of which the first `count` are in use, and whether its shift is 1.
-#[derive(Drop)]
+#[derive(Clone, Copy)]
 pub struct LiftingFilter {
     pub steps: [LiftingStep; 4],
     pub count: usize,

@@ -9,7 +9,7 @@ use crate::filter::{LiftingFilter, LiftingStep};
 use base::signed;
 
 // The four types of step.
-#[derive(Drop)]
+#[derive(Clone, Copy)]
 pub enum Kind {
     One,
     Two,
@@ -18,11 +18,11 @@ pub enum Kind {
 }
 
 // A step as document 01 lists it: type, D, taps, S; the taps with zeros behind them, and then how many they are.
-#[derive(Drop)]
+#[derive(Clone, Copy)]
 pub struct TableStep(pub Kind, pub i64, pub [i64; 8], pub usize, pub u32);
 
 // A filter of the table: where its steps start, how many it has, and whether its shift is 1.
-#[derive(Drop)]
+#[derive(Clone, Copy)]
 pub struct TableFilter(pub usize, pub usize, pub bool);
 
 // The steps of the filters, in document 01's order. Filter 4 has those of filter 3.

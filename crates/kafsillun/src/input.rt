@@ -3,7 +3,7 @@ ghost use Rattle.std.specs.Prelude.{◌≤◌, length};
 ghost use Rattle.io.specs.Counts.{IsPrefixLen};
 
 // What reading gave: how many bytes, and whether it failed, where errno says why.
-#[derive(Drop)]
+#[derive(Clone, Copy)]
 pub struct Reading {
     pub is_failed: bool,
     pub count: usize,

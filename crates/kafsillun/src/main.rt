@@ -1,4 +1,5 @@
 // Reads a recording and writes what it decodes to (document 01, "A recording").
+#![tactic(auto)]
 mod input;
 
 use crate::input::read_all;

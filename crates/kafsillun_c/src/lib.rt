@@ -1,4 +1,5 @@
 // The C interface of the whole decoder: the four public jobs. Parameters of components and answers are those of the transform's interface.
+#![tactic(auto)]
 ghost use Rattle.std.specs.Prelude.{◌≡◌};
 ghost use Rattle.unpack.specs.Job.{outcome as unpack_outcome, unpacked};
 ghost use Rattle.transform.specs.Job.{outcome as synthesis_outcome, synthesised};
@@ -58,7 +59,7 @@ pub extern "C" fn kafsillun_decode(
 
 // The parameters of a picture in low delay slices, as C passes them. An intra flag that is not 0 says yes.
 #[repr(C)]
-#[derive(Drop)]
+#[derive(Clone, Copy)]
 pub struct KafsillunLowDelay {
     pub luma_width: u32,
     pub luma_height: u32,

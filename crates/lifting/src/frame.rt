@@ -1,5 +1,5 @@
 // Where the picture of a level stands in a plane: how far apart its rows are, and the size of its bands, which is half its own.
-#[derive(Drop)]
+#[derive(Clone, Copy)]
 pub struct Frame {
     pub stride: usize,
     pub band_rows: usize,

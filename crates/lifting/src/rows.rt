@@ -18,7 +18,7 @@ use lines::buffers::{extend, interleave};
 use lines::measures::copy_measured;
 
 // A row of the last level: where it starts in the plane, and how many of its first numbers go to the samples, from an index on.
-#[derive(Drop)]
+#[derive(Clone, Copy)]
 pub struct KeptRow {
     pub start: usize,
     pub to: usize,

@@ -1,5 +1,6 @@
 // Lines of a plane lifted in place, where sums and new numbers stay within 32 bits, so that nothing is tested on the way. What comes out is what
 // the exact sums give.
+#![tactic(auto)]
 pub mod arithmetic;
 pub mod known_taps;
 pub mod loops;
@@ -12,7 +13,7 @@ use crate::known_taps::{lift_more_pairs, lift_one_pair, lift_single, lift_two_pa
 use crate::pairs::{pair_tap, paired_line};
 
 // A line that is lifted: where it starts in its plane, how many numbers it has, what their sums start with, and the scale.
-#[derive(Drop)]
+#[derive(Clone, Copy)]
 pub struct LineStep {
     pub start: usize,
     pub width: usize,
@@ -21,7 +22,7 @@ pub struct LineStep {
 }
 
 // A line that is lifted by pairs of taps, and where the taps of its four pairs read from: the earlier ones, then the later ones.
-#[derive(Drop)]
+#[derive(Clone, Copy)]
 pub struct PairedLine {
     pub line: LineStep,
     pub indices: [usize; 8],

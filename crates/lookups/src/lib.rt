@@ -1,4 +1,5 @@
 // The next bits of data as one number, and what a table tells of eight of them.
+#![tactic(auto)]
 ghost use Rattle.std.specs.Prelude.{◌≡◌, ◌≢◌, ◌+◌, ◌-◌, ◌*◌, ◌/◌, ◌^◌, ◌≤◌, ◌<◌, eqb, length};
 ghost use Rattle.exp_golomb.specs.Bits.{bits_from};
 ghost use Rattle.lookups.specs.Windows.{is_window, window_of};
@@ -6,7 +7,7 @@ ghost use Rattle.lookups.specs.Lookups.{KnowsCodes, Describes};
 
 // What eight bits tell: so many zeros, with or without one more value, and the bits of all of them. The value is twice its
 // size, and one more where it is below 0. No bits stand for a code that does not end in the eight.
-#[derive(Drop)]
+#[derive(Clone, Copy)]
 pub struct Lookup {
     pub zeros: usize,
     pub count: usize,

@@ -13,7 +13,7 @@ use slices::parameters::Picture;
 const INDEX_BITS: usize = 7;
 
 // What a header says.
-#[derive(Drop)]
+#[derive(Clone, Copy)]
 pub enum Header {
     // The slice is refused: a refusal's number, and the bit of all bytes at which it arose.
     Refused {

@@ -2,7 +2,7 @@
 use slices::parameters::Picture;
 
 // A picture, and the fraction that gives the bytes of its slices. Any value can be passed; the job refuses what is out of range.
-#[derive(Drop)]
+#[derive(Clone, Copy)]
 pub struct LowDelay {
     pub picture: Picture,
     pub numerator: u32,

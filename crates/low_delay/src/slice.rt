@@ -21,14 +21,14 @@ use slices::parameters::{Holder, Picture};
 use slices::parts::{SlicePart, read_part};
 
 // A slice of a picture, by its number.
-#[derive(Drop)]
+#[derive(Clone, Copy)]
 pub struct Numbered {
     pub parameters: LowDelay,
     pub number: usize,
 }
 
 // What is read of a slice's own bytes after its header: luma's part runs up to bit `middle`, and that of C1 and C2 from there on.
-#[derive(Drop)]
+#[derive(Clone, Copy)]
 pub struct TwoParts {
     pub picture: Picture,
     pub number: usize,

@@ -4,7 +4,7 @@ use slices::parameters::Picture;
 use vector_io::two_bytes;
 
 // How many bytes of data a job has, and how many entries each of its planes.
-#[derive(Drop)]
+#[derive(Clone, Copy)]
 pub(crate) struct Lengths {
     pub bytes: usize,
     pub luma: usize,

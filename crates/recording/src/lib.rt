@@ -1,4 +1,5 @@
 // Document 01, "A recording": the text that a recording decodes to, part by part.
+#![tactic(auto)]
 mod lines;
 mod planes;
 

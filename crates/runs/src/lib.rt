@@ -1,5 +1,6 @@
 // Document 02, request Four: values that go side by side into a run, from a part of data. "a bit past a part's end reads as 1". Values are read
 // many at once up to the last of them.
+#![tactic(auto)]
 ghost use Rattle.std.specs.Prelude.{◌≡◌, true, false, ◌+◌, ◌*◌, ◌≤◌, ◌<◌, min, length};
 ghost use Rattle.coefficients.specs.Reading.{goes_on};
 ghost use Rattle.coefficients.specs.Scaling.{scale_of, Bounded, small_fit};
@@ -19,7 +20,7 @@ use padded::padded_window;
 
 // Where a part of data stands: its next bit, the bit at which it ends, and the bit of all the bytes that its first bit is. Past its end bits
 // read as 1.
-#[derive(Drop)]
+#[derive(Clone, Copy)]
 pub struct Span {
     pub bit: usize,
     pub end: usize,

@@ -12,7 +12,7 @@ use component::sizes::padded_size;
 use component::subbands::{subband_at, subband_count};
 
 // A slice of a component: its number, its column and row among the slices, and what multiplies in place of divisions by their counts.
-#[derive(Drop)]
+#[derive(Clone, Copy)]
 pub struct Slice {
     pub grid: Grid,
     pub number: usize,

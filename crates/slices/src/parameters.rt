@@ -1,7 +1,7 @@
 // Document 02, request Four: the parameters of a picture in slices.
 
 // What every kind of slices takes. Any value can be passed; a job refuses what is out of range.
-#[derive(Drop)]
+#[derive(Clone, Copy)]
 pub struct Picture {
     pub luma_width: u32,
     pub luma_height: u32,
@@ -16,7 +16,7 @@ pub struct Picture {
 }
 
 // The plane of a component, by its padded sizes, and the counts of the slices that divide it.
-#[derive(Drop)]
+#[derive(Clone, Copy)]
 pub struct Grid {
     pub depth: usize,
     pub width: usize,
@@ -26,7 +26,7 @@ pub struct Grid {
 }
 
 // Whose values a part has: luma's, or those of C1 and C2 in turn.
-#[derive(Drop)]
+#[derive(Clone, Copy)]
 pub enum Holder {
     Luma,
     Both,

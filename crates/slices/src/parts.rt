@@ -26,7 +26,7 @@ use runs::{Span, read_run};
 const RUN: usize = 8192;
 
 // A part of slice number `slice`: whose values it has, the slice's quantiser index, and where its data stand.
-#[derive(Drop)]
+#[derive(Clone, Copy)]
 pub struct SlicePart {
     pub picture: Picture,
     pub slice: usize,
@@ -36,7 +36,7 @@ pub struct SlicePart {
 }
 
 // A rectangle of a part: whose values it has, where they go, where its data stand, and what they are dequantised by.
-#[derive(Drop)]
+#[derive(Clone, Copy)]
 pub struct Piece {
     pub holder: Holder,
     pub area: Rectangle,

@@ -20,7 +20,7 @@ use lines::measures::join;
 
 // A level that is swept: where its picture stands in the work plane, how far its stages are apart, and whether its rows are finished into the
 // samples, whose sizes are those of the crop.
-#[derive(Drop)]
+#[derive(Clone, Copy)]
 pub struct Level {
     pub frame: Frame,
     pub gap: usize,

@@ -9,7 +9,7 @@ use lifting::frame::Frame;
 use lifting::rows::{KeptRow, filter_row, finish_row, kept_columns};
 
 // The width and the height of the samples.
-#[derive(Drop)]
+#[derive(Clone, Copy)]
 pub struct Crop {
     pub width: usize,
     pub height: usize,

@@ -1,5 +1,6 @@
 // Runs synthesise on the jobs of the standard input and writes what each gives to the standard output. The independent decoder made the
 // stored input and the expected output, and says what they look like (host/vectors/src/synthesis_vectors.rs).
+#![tactic(auto)]
 mod input;
 mod output;
 

@@ -1,4 +1,5 @@
 // Text put into bytes. Each `put` puts a piece from an index on and answers the index after it.
+#![tactic(auto)]
 mod numbers;
 mod words;
 

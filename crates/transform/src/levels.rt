@@ -13,7 +13,7 @@ use sweep::level::{Level, sweep_level};
 use sweep::rows::Crop;
 
 // The sizes of a component: its padded width, the size of its low band, its depth, and the width and height of its samples.
-#[derive(Drop)]
+#[derive(Clone, Copy)]
 pub struct Extent {
     pub padded_width: usize,
     pub low_rows: usize,

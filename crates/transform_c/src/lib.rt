@@ -1,4 +1,5 @@
 // The C interface of the transform, which is shipped without the unpacker; and the parameters and answers of every C function.
+#![tactic(auto)]
 ghost use Rattle.std.specs.Prelude.{◌≡◌};
 ghost use Rattle.transform.specs.Job.{outcome, synthesised};
 ghost use Rattle.transform_c.specs.Interface.{parameters_of, answer_of};
@@ -7,7 +8,7 @@ use component::parameters::{Answer, Parameters};
 
 // The parameters of a component, as C passes them. An intra flag that is not 0 says yes.
 #[repr(C)]
-#[derive(Drop)]
+#[derive(Clone, Copy)]
 pub struct KafsillunParameters {
     pub width: u32,
     pub height: u32,
@@ -20,7 +21,7 @@ pub struct KafsillunParameters {
 
 // What a job answers, as C gets it.
 #[repr(C)]
-#[derive(Drop)]
+#[derive(Clone, Copy)]
 pub struct KafsillunAnswer {
     pub status: u32,
     pub place: usize,

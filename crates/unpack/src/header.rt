@@ -8,7 +8,7 @@ use exp_golomb::codes::{Number, next_bit, read_unsigned, status};
 const NO_END: usize = 18446744073709551615;
 
 // What a header says.
-#[derive(Drop)]
+#[derive(Clone, Copy)]
 pub enum Header {
     // There are no data; reading goes on at a bit.
     Skipped { bit: usize },

@@ -1,5 +1,6 @@
 // What the programs that run stored vectors share: numbers of the input, pieces of the lines of the output, and planes that hold something
 // before a call.
+#![tactic(auto)]
 ghost use Rattle.std.specs.Prelude.{◌≡◌, false, ◌+◌, ◌*◌, ◌≤◌, ◌<◌, length};
 ghost use Rattle.base.specs.Fill.{fill};
 ghost use Rattle.io.specs.Counts.{IsPrefixLen};

@@ -1,6 +1,7 @@
 // Document 01, "Bench readings": "The program runs the rest", and document 02, requests Three and Four. Writes a line for each case: what it
 // is, the status, the place, and the plane after it; for a number code by itself, the bit after it and the number; for slices, the planes of
 // C1 and C2 in lines of their own. What is proved stands in specs/Examples.antt, proofs/WorkedExamples.antt and proofs/LowDelayExamples.antt.
+#![tactic(auto)]
 mod codes;
 mod output;
 mod samples;

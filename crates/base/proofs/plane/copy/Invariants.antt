@@ -1,0 +1,17 @@
+-- `base::plane::copy` meets its contract: after x turns the plane is the one that came, with x entries of the source stored.
+use mathlib.Core.Path.{◌≡◌, refl, sym, ◌∙◌}
+use Prim.Native.Nat.{◌+◌, ◌≤◌, ◌-◌}
+use native.Mathlib.Omega.{arith}
+use lib.IntN.{pos}
+use lib.ListN.{length, get_or, length-set}
+use mir.Syntax.{w32}
+use Rattle.base.specs.Fill.{fill}
+use Rattle.base.proofs.FillLaws.{fill_none, fill_more}
+use Rattle.base.proofs.RangeLaws.{back}
+use Rattle.base.proofs.plane.copy.Given as goal
+
+abbrev pub invariant-loop-x : goal.invariant-loop-x
+invariant-loop-x l = (l.x ≤ l.n) × (length l.plane ≡ length l.initial.plane) × (l.plane ≡ fill l.initial.plane l.index l.x (λ k. get_or l.source (l.from + k) (pos 0)))
+
+abbrev pub decreases-loop-x : goal.decreases-loop-x
+decreases-loop-x l = l.n - l.x

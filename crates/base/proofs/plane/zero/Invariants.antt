@@ -1,0 +1,16 @@
+-- `base::plane::zero` meets its contract: after i turns the plane is the one that came, with i zeros stored from its start.
+use mathlib.Core.Path.{◌≡◌, refl, sym, ◌∙◌}
+use Prim.Native.Nat.{◌≤◌, ◌-◌}
+use native.Mathlib.Omega.{arith}
+use borrow.Author.Rules.{rules}
+use lib.IntN.{pos}
+use lib.ListN.{length, length-set}
+use Rattle.base.specs.Fill.{fill}
+use Rattle.base.proofs.FillLaws.{fill_none, fill_more, fill-zeros}
+use Rattle.base.proofs.plane.zero.Given as goal
+
+abbrev pub invariant-loop-i : goal.invariant-loop-i
+invariant-loop-i l = (l.i ≤ length l.initial.plane) × (length l.plane ≡ length l.initial.plane) × (l.plane ≡ fill l.initial.plane 0 l.i (λ k. pos 0))
+
+abbrev pub decreases-loop-i : goal.decreases-loop-i
+decreases-loop-i l = length l.initial.plane - l.i

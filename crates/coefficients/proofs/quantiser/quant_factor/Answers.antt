@@ -1,0 +1,6 @@
+-- `coefficients::quantiser::quant_factor` meets its contract: the table has the factor of each index.
+use borrow.Author.Rules.{rules}
+use Rattle.coefficients.proofs.quantiser.quant_factor.Goals as goal
+
+pub returns : goal.returns
+returns c = c.factor_table-table.ensures.each c.args.index c.requires

@@ -1,0 +1,30 @@
+-- `coefficients::quantiser::quantiser_by` meets its contract: the factor is the table's, and the offset that of the index and the flag.
+use mathlib.Core.Path.{◌≡◌}
+use native.Mathlib.Omega.{arith}
+use lib.ListN.{get_or}
+use borrow.Author.Rules.{rules}
+use Rattle.coefficients.specs.Quantiser.{quant_factor, dequantise}
+use Rattle.coefficients.proofs.QuantiserLaws.{factor-below, offset-below}
+use Rattle.coefficients.proofs.quantiser.quantiser_by.Goals as goal
+use Rattle.coefficients.proofs.quantiser.quantiser_by.Goals.{Start}
+
+-- the table's entry is the factor
+known : (c : Start) → get_or c.args.factors.now c.args.index 0 ≡ quant_factor c.args.index
+known c = c.requires.1.each c.args.index c.requires.0
+
+pub overflow_cast-factor-2 : goal.overflow_cast-factor-2
+overflow_cast-factor-2 c = omega (arith, known (goal.at.overflow_cast-factor-2 c).Start, factor-below c.args.index c.requires.0)
+
+pub quant_offset-offset-requires : goal.quant_offset-offset-requires
+quant_offset-offset-requires c = (c.requires.0, known (goal.at.quant_offset-offset-requires c).Start)
+
+pub returns : goal.returns
+unfolding dequantise
+returns c =
+    (
+      rw (known (goal.at.returns c).Start, c.quant_offset-offset.ensures),
+      record {
+        factor_most = rw (known (goal.at.returns c).Start) (factor-below c.args.index c.requires.0);
+        offset_most = rw c.quant_offset-offset.ensures (offset-below c.args.intra c.args.index c.requires.0);
+      },
+    )

@@ -1,0 +1,18 @@
+-- `coefficients::values::read_lookups` meets its contract: each lookup reads the values after those of the lookups before it, and takes at most
+-- eight of the 56 bits.
+use Prim.Native.Nat.{◌+◌, ◌-◌, ◌*◌, ◌≤◌, ◌<◌}
+use native.Mathlib.Omega.{arith}
+use lib.IntN.{pos}
+use lib.ListN.{length, get_or}
+use borrow.Author.Rules.{rules}
+use mir.Syntax.{w32}
+use Rattle.base.proofs.RangeLaws.{back}
+use Rattle.lookups.proofs.LookupsLaws.{lookup-count}
+use Rattle.coefficients.proofs.BatchesLaws.{Taken, taken_none, taken-lookup, taken-zeros}
+use Rattle.coefficients.proofs.values.read_lookups.Given as goal
+
+abbrev pub invariant-loop-k : goal.invariant-loop-k
+invariant-loop-k l = (l.k ≤ 7) × (l.bits ≤ 8 * l.k) × (l.i ≤ l.layout.count) × Taken l.window l.small l.layout l.from l.initial.plane l.w l.i l.bits l.plane
+
+abbrev pub decreases-loop-k : goal.decreases-loop-k
+decreases-loop-k l = 7 - l.k

@@ -1,0 +1,43 @@
+use mathlib.Core.Path.{◌≡◌, refl, sym, ◌∙◌}
+use Prim.Native.Nat.{ℕ, ◌+◌, ◌-◌, ◌*◌, ◌≤◌, ◌<◌}
+use native.Mathlib.Nat.{zero-add}
+use native.Mathlib.Omega.{arith}
+use lib.IntN.{pos}
+use lib.ListN.{length, get_or}
+use Rattle.base.proofs.FillLaws.{fill_none, fill-append, fill-same, get_d-fill-start}
+use Rattle.lines.specs.Buffers.{row_number, with_row}
+use Rattle.lines.proofs.buffers.interleave_eights.Goals as goal
+use Rattle.lines.proofs.buffers.interleave_eights.Goals.{After-interleave_part}
+
+pub loop-i-init : goal.loop-i-init
+loop-i-init c = (omega arith, refl, sym (fill_none _ _ _))
+
+pub slice_bounds-copy-end : goal.slice_bounds-copy-end
+slice_bounds-copy-end c = sym c.interleave_part.auto.plane
+
+pub copy-requires : goal.copy-requires
+copy-requires c = omega (arith, c.interleave_part.auto.plane)
+
+-- the eight numbers that a turn copies are the next of the row
+copied : (c : After-interleave_part) (k : ℕ) → k < 8
+    → get_or c.interleave_part.new.plane (0 + k) (pos 0)
+    ≡ row_number c.args.halves.now c.args.shift (8 * c.loop-i.i + k)
+copied c k h = rw (zero-add k, c.interleave_part.ensures) (get_d-fill-start _ _ 8 k (pos 0) h h)
+
+pub loop-i-preserved : goal.loop-i-preserved
+loop-i-preserved c =
+    let more : 8 * (c.loop-i.i + 1) ≡ 8 * c.loop-i.i + 8 = omega arith in (
+      omega arith,
+      c.copy.auto.plane ∙ c.loop-i.invariant.1,
+      c.copy.ensures
+          ∙ fill-same _ _ _ _ 8 (copied (goal.at.loop-i-preserved c).After-interleave_part)
+          ∙ rw (c.loop-i.invariant.2, more) (fill-append _ _ _ (8 * c.loop-i.i) 8),
+    )
+
+pub shape_of-plane : goal.shape_of-plane
+shape_of-plane c = c.loop-i.invariant.1
+
+pub returns : goal.returns
+returns c =
+    let all : c.loop-i.i ≡ c.args.eights = omega arith in
+    c.loop-i.invariant.2 ∙ rw all refl

@@ -1,0 +1,15 @@
+-- `low_delay::headers::read_bits` meets its contract: at the loop's head v is the number of the first i bits.
+use mathlib.Core.Path.{◌≡◌}
+use Prim.Native.Nat.{◌+◌, ◌-◌, ◌/◌, ◌^◌, ◌≤◌, ◌<◌}
+use native.Mathlib.Omega.{arith}
+use lib.Pow.{pow_mono}
+use Rattle.exp_golomb.specs.Bits.{bit_at, bits_from}
+use Rattle.lookups.proofs.WindowsLaws.{bits_small, bits-split, one_bit}
+use Rattle.low_delay.proofs.SlicesLaws.{bits_none}
+use Rattle.low_delay.proofs.headers.read_bits.Given as goal
+
+abbrev pub invariant-loop-i : goal.invariant-loop-i
+invariant-loop-i l = (l.i ≤ l.n) × (l.v ≡ bits_from l.bytes l.at l.i)
+
+abbrev pub decreases-loop-i : goal.decreases-loop-i
+decreases-loop-i l = l.n - l.i

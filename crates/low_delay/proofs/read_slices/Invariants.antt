@@ -1,0 +1,22 @@
+-- `low_delay::read_slices` meets its contract: at the loop's head what is left is what follows from the planes so far.
+use mathlib.Core.Path.{◌≡◌, refl, sym, ap, ◌∙◌}
+use Prim.Native.Nat.{suc, ◌-◌, ◌≤◌}
+use native.Mathlib.Numerals.{add-one}
+use native.Mathlib.Omega.{arith}
+use lib.ListN.{length}
+use borrow.Author.Rules.{rules}
+use Rattle.slices.specs.Planes.{planes_of}
+use Rattle.slices.specs.Reads.{Blank}
+use Rattle.slices.proofs.PartsLaws.{lengths-same}
+use Rattle.slices.proofs.ReadsLaws.{blank-zeros, left-on}
+use Rattle.low_delay.specs.Job.{result, outcome, slices_from}
+use Rattle.low_delay.proofs.JobLaws.{zeros-same, slices-read, slices-refused, slices-over}
+use Rattle.low_delay.proofs.read_slices.Given as goal
+
+abbrev pub invariant-loop-k : goal.invariant-loop-k
+invariant-loop-k l =
+    (l.k ≤ l.count) × (length l.luma ≡ length l.initial.luma) × (length l.first ≡ length l.initial.first) × (length l.second ≡ length l.initial.second) × (length l.run ≡ 8192) × Blank l.run
+    × (slices_from l.p l.bytes l.count 0 (planes_of l.initial.luma l.initial.first l.initial.second) ≡ slices_from l.p l.bytes (l.count - l.k) l.k (planes_of l.luma l.first l.second))
+
+abbrev pub decreases-loop-k : goal.decreases-loop-k
+decreases-loop-k l = l.count - l.k

@@ -1,0 +1,75 @@
+-- `low_delay::slice::read_slice` meets its contract: a slice short of bytes is refused, and so is one that its header refuses.
+use mathlib.Core.Path.{◌≡◌, ◌∙◌}
+use Prim.Native.Nat.{suc, ◌-◌, ◌≤◌, ◌<◌}
+use native.Mathlib.Numerals.{add-one}
+use native.Mathlib.Omega.{arith}
+use lib.ListN.{length, take, drop}
+use borrow.Author.Rules.{rules}
+use Rattle.slices.specs.Planes.{planes_of}
+use Rattle.slices.proofs.ReadsLaws.{left-refused}
+use Rattle.low_delay.specs.Slices.{slice_start, slice_size}
+use Rattle.low_delay.proofs.SlicesLaws.{count_most, size_is, size-most, size-least, start-grows, own-length, slice-short, slice-refused, slice-read}
+use Rattle.low_delay.proofs.slice.read_slice.Goals as goal
+use Rattle.low_delay.proofs.slice.read_slice.Goals.{After-own-1, After-slice_start-next, Else-bytes-next, Start}
+
+-- there are no more than 65025 slices
+slices-few : (c : Start) → c.args.of.number < 65025
+slices-few c = omega (arith, c.requires.sound.2, count_most _ c.requires.sound.0)
+
+-- where it starts and ends, and that its bytes are there
+starts : (c : After-slice_start-next) → c.slice_start-start.result ≡ slice_start c.args.of.parameters c.args.of.number
+starts c = c.slice_start-start.ensures.0
+
+ends : (c : After-slice_start-next) → c.slice_start-next.result ≡ slice_start c.args.of.parameters (suc c.args.of.number)
+ends c = rw (add-one c.args.of.number) at c.slice_start-next.ensures.0
+
+forward : (c : Else-bytes-next) → c.slice_start-start.result ≤ c.slice_start-next.result
+forward c =
+    rw (starts c.before, ends c.before) (start-grows c.args.of.parameters c.requires.sound.1.denominator_least c.args.of.number (suc c.args.of.number) (omega arith))
+
+-- its own bytes are as many as the definition says
+own_is : (c : After-own-1) →
+    length (take (c.slice_start-next.result - c.slice_start-start.result) (drop c.slice_start-start.result c.args.bytes.now))
+    ≡ slice_size c.args.of.parameters c.args.of.number
+own_is c =
+    own-length _ c.args.bytes.now _ _ _ (starts c.before.before) (ends c.before.before) (planes_of c.args.luma.now c.args.first.now c.args.second.now) (omega (arith, c.if-bytes-next.false))
+    ∙ size_is _ _ _ _ (starts c.before.before) (ends c.before.before)
+
+pub slice_start-start-requires : goal.slice_start-start-requires
+slice_start-start-requires c = (c.requires.sound.1, omega (arith, slices-few (goal.at.slice_start-start-requires c).Start))
+
+pub overflow_add-of : goal.overflow_add-of
+overflow_add-of c = omega (arith, slices-few (goal.at.overflow_add-of c).Start)
+
+pub slice_start-next-requires : goal.slice_start-next-requires
+slice_start-next-requires c = (c.requires.sound.1, omega (arith, slices-few (goal.at.slice_start-next-requires c).Start))
+
+pub returns-then-bytes-next : goal.returns-then-bytes-next
+returns-then-bytes-next c = left-refused _ _ _ _ _ _ _ (slice-short _ _ _ _ _ (starts (goal.at.returns-then-bytes-next c).After-slice_start-next) (ends (goal.at.returns-then-bytes-next c).After-slice_start-next) _ c.if-bytes-next.true)
+
+pub slice_bounds-own-count : goal.slice_bounds-own-count
+slice_bounds-own-count c = forward (goal.at.slice_bounds-own-count c).Else-bytes-next
+
+-- TODO need
+part-own-start : tie.Need-slice-bounds-own-start
+part-own-start c = forward c
+
+pub read_header-requires : goal.read_header-requires
+read_header-requires c =
+    let own = own_is (goal.at.read_header-requires c).After-own-1 in
+    let sound = c.requires.sound.1 in
+    let p = c.args.of.parameters in
+    let k = c.args.of.number in
+    (c.requires.sound.0, omega (arith, own, size-least p sound.denominator_least sound.denominator_most k), omega (arith, own, size-most p sound.denominator_least k, sound.numerator_most), omega (arith, c.slice_start-start.ensures.1))
+
+pub read_parts-requires : goal.read_parts-requires
+read_parts-requires c =
+    ((c.requires.sound.0, c.requires.sound.2, omega (arith, c.slice_start-start.ensures.1, own_is (goal.at.read_parts-requires c).After-own-1, size-most c.args.of.parameters c.requires.sound.1.denominator_least c.args.of.number, c.requires.sound.1.numerator_most), rw c.in-Read.is at c.read_header.ensures.sound_header), c.requires.1)
+
+pub returns-in-Refused : goal.returns-in-Refused
+returns-in-Refused c =
+    slice-refused _ _ _ _ _ (starts (goal.at.returns-in-Refused c).After-slice_start-next) (ends (goal.at.returns-in-Refused c).After-slice_start-next) _ (omega (arith, c.if-bytes-next.false)) _ _ _ _ _ (rw c.in-Refused.is at c.read_header.ensures.result_value)
+
+pub returns-in-Read : goal.returns-in-Read
+returns-in-Read c =
+    slice-read _ _ _ _ _ (starts (goal.at.returns-in-Read c).After-slice_start-next) (ends (goal.at.returns-in-Read c).After-slice_start-next) _ (omega (arith, c.if-bytes-next.false)) (forward (goal.at.returns-in-Read c).Else-bytes-next) _ (rw c.in-Read.is at c.read_header.ensures.result_value) _ _ _ c.read_parts.ensures

@@ -1,0 +1,19 @@
+-- `runs::read_some` meets its contract: either way it reads values as the contract says.
+use mathlib.Core.Path.{sym, ◌∙◌}
+use Rattle.runs.specs.Runs.{side_by_side}
+use Rattle.runs.proofs.RunsLaws.{side-index, side-inside, inside-sound, value-some}
+use borrow.Author.Rules.{rules}
+use Rattle.runs.proofs.read_some.Goals as goal
+
+pub read_window-requires : goal.read_window-requires
+read_window-requires c =
+    record { ready = c.requires; fit = sym c.small_fit.ensures ∙ c.if-small_fit.true }
+
+pub read_value-requires : goal.read_value-requires
+read_value-requires c =
+    (side-inside _ _ _ c.requires.1 _ c.requires.0, inside-sound _ _ c.requires.2, c.requires.3.bounded)
+
+pub returns : goal.returns
+returns c =
+    let reads = rw (← side-index c.args.n) at c.read_value.ensures.read in
+    record { read = reads; some = value-some _ _ _ (side_by_side c.args.n) _ _ _ _ c.requires.2 c.requires.0 reads c.read_value.ensures.one }

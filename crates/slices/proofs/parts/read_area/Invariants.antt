@@ -1,0 +1,26 @@
+-- `slices::parts::read_area` meets its contract: all rows at once; or row by row, where at the loop's head the rows before row y are read.
+use mathlib.Core.Path.{◌≡◌, refl, ◌∙◌}
+use Prim.Native.Nat.{◌-◌, ◌≤◌}
+use native.Mathlib.Nat.{mul-le-mul}
+use native.Mathlib.Omega.{arith}
+use lib.ListN.{length}
+use borrow.Author.Rules.{rules}
+use Rattle.base.specs.Walk.{walk}
+use Rattle.coefficients.specs.Reading.{goes_on}
+use Rattle.coefficients.specs.Scaling.{scale_of}
+use Rattle.slices.specs.Planes.{planes_of}
+use Rattle.slices.specs.Parts.{area_values}
+use Rattle.slices.specs.Reads.{Blank, data_of, row_of, Left}
+use Rattle.slices.proofs.StoresLaws.{row-few, row_inside, fits-row, fits-same}
+use Rattle.slices.proofs.ReadsLaws.{walked_none, walked_more, walked_stop, walked_all, area-stays, area-rows, span-again, left-again}
+use Rattle.slices.proofs.parts.read_area.Given as goal
+
+abbrev pub invariant-loop-y : goal.invariant-loop-y
+invariant-loop-y l =
+    (l.y ≤ l.area.height) × (length l.luma ≡ length l.initial.luma) × (length l.first ≡ length l.initial.first) × (length l.second ≡ length l.initial.second) × (length l.run ≡ length l.initial.run) × Blank l.run
+    × (l.span.end ≡ l.initial.span.end) × (l.span.origin ≡ l.initial.span.origin) × (l.span.bit ≤ l.initial.span.end)
+    × (walk (λ j. area_values (data_of l.bytes l.initial.span) (scale_of l.q) l.holder (row_of l.area j)) 0 l.y (goes_on l.initial.span.bit (planes_of l.initial.luma l.initial.first l.initial.second))
+    ≡ goes_on l.span.bit (planes_of l.luma l.first l.second))
+
+abbrev pub decreases-loop-y : goal.decreases-loop-y
+decreases-loop-y l = l.area.height - l.y

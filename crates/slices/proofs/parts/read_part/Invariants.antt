@@ -1,0 +1,28 @@
+-- `slices::parts::read_part` meets its contract: at the loop's head the values of the subbands before subband k are read.
+use mathlib.Core.Path.{◌≡◌, refl, ◌∙◌}
+use Prim.Native.Nat.{◌-◌, ◌≤◌, ◌<◌}
+use native.Mathlib.Omega.{arith}
+use lib.ListN.{length}
+use borrow.Author.Rules.{rules}
+use Rattle.base.specs.Walk.{walk}
+use Rattle.component.specs.Subbands.{subband_count}
+use Rattle.coefficients.specs.Quantiser.{dequantise}
+use Rattle.coefficients.specs.Reading.{goes_on}
+use Rattle.slices.specs.Planes.{planes_of}
+use Rattle.slices.specs.Areas.{slice_area, subband_index}
+use Rattle.slices.specs.Parts.{grid_for, area_values, part_values}
+use Rattle.slices.specs.Reads.{Blank, data_of, Left}
+use Rattle.slices.proofs.PartsLaws.{grid-counted, grid-depth, part-fits, lengths-same}
+use Rattle.slices.proofs.ReadsLaws.{walked_none, walked_more, walked_stop, walked_all, area-stays, span-again, left-again}
+use Rattle.slices.proofs.parts.read_part.Given as goal
+
+abbrev pub invariant-loop-k : goal.invariant-loop-k
+invariant-loop-k l =
+    (l.k ≤ l.count) × (length l.luma ≡ length l.initial.luma) × (length l.first ≡ length l.initial.first) × (length l.second ≡ length l.initial.second) × (length l.run ≡ length l.initial.run) × Blank l.run
+    × (l.span.end ≡ l.initial.span.end) × (l.span.origin ≡ l.initial.span.origin) × (l.span.bit ≤ l.initial.span.end)
+    × (walk (λ j. area_values (data_of l.bytes l.initial.span) (dequantise l.part.picture.intra (subband_index l.part.picture l.part.index j)) l.part.holder (slice_area (grid_for l.part.picture l.part.holder) l.part.slice j)) 0 l.k
+    (goes_on l.initial.span.bit (planes_of l.initial.luma l.initial.first l.initial.second))
+    ≡ goes_on l.span.bit (planes_of l.luma l.first l.second))
+
+abbrev pub decreases-loop-k : goal.decreases-loop-k
+decreases-loop-k l = l.count - l.k

@@ -1,0 +1,36 @@
+use mathlib.Core.Path.{◌≡◌, refl, sym, ◌∙◌}
+use Prim.Native.Nat.{◌+◌, ◌-◌, ◌*◌, ◌≤◌}
+use native.Mathlib.Omega.{arith}
+use lib.IntN.{pos}
+use lib.ListN.{length, get_or, length-set}
+use mir.Syntax.{w32}
+use Rattle.base.specs.Fill.{fill}
+use Rattle.base.proofs.FillLaws.{fill_none, fill_more}
+use Rattle.base.proofs.RangeLaws.{back}
+use Rattle.slices.proofs.stores.share.Goals as goal
+
+pub loop-x-init : goal.loop-x-init
+loop-x-init c = (omega arith, refl, refl, sym (fill_none _ _ _), sym (fill_none _ _ _))
+
+pub loop-x-preserved : goal.loop-x-preserved
+loop-x-preserved c =
+    let args = c.args in
+    let inv = c.loop-x.invariant in (
+      omega arith,
+      simp length-set inv.1,
+      simp length-set inv.2,
+      rw (back w32 (get_or args.source.now (args.from + 2 * c.loop-x.x) (pos 0)) c.first-1.given, inv.3) (fill_more _ _ _ _ _ refl),
+      rw (back w32 (get_or args.source.now (args.from + 2 * c.loop-x.x + 1) (pos 0)) c.second-1.given, inv.4) (fill_more _ _ _ _ _ refl),
+    )
+
+pub shape_of-first : goal.shape_of-first
+shape_of-first c = c.loop-x.invariant.1
+
+pub shape_of-second : goal.shape_of-second
+shape_of-second c = c.loop-x.invariant.2
+
+pub returns : goal.returns
+returns c =
+    let inv = c.loop-x.invariant in
+    let all : c.loop-x.x ≡ c.args.n = omega arith in
+    record { first_after = inv.3 ∙ rw all refl; second_after = inv.4 ∙ rw all refl }

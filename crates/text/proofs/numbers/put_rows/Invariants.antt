@@ -1,0 +1,25 @@
+-- `text::numbers::put_rows` meets its contract: after y turns the text goes on by the first y rows.
+use mathlib.Core.Path.{◌≡◌, refl, ap, ◌∙◌}
+use Prim.Native.Nat.{ℕ, suc, ◌+◌, ◌*◌, ◌-◌, ◌≤◌}
+use native.Mathlib.Nat.{mul-suc, mul_comm}
+use native.Mathlib.Omega.{arith}
+use borrow.Author.Rules.{rules}
+use lib.ListN.{length}
+use Rattle.base.proofs.Grids.{row_room}
+use Rattle.base.proofs.ListsLaws.{length_part}
+use Rattle.text.specs.Put.{Put}
+use Rattle.text.specs.Text.{rows_text}
+use Rattle.text.proofs.PutLaws.{put-none, put_same, put_both}
+use Rattle.text.proofs.TextLaws.{rows_more}
+use Rattle.text.proofs.numbers.put_rows.Given as goal
+
+abbrev pub invariant-loop-y : goal.invariant-loop-y
+invariant-loop-y l =
+    (l.y ≤ l.height)
+    × (length l.text ≡ length l.initial.text)
+    × (l.from ≡ l.width * l.y)
+    × (l.end ≤ l.at + 12 * l.from + l.y)
+    × Put l.at l.initial.text (rows_text l.width l.y l.numbers) l.end l.text
+
+abbrev pub decreases-loop-y : goal.decreases-loop-y
+decreases-loop-y l = l.height - l.y

@@ -1,0 +1,48 @@
+-- `unpack::data::read_headed` meets its contract: each kind of header goes on as the definition says, and the tests of a coded one are those
+-- of the definition, in its order.
+use native.Mathlib.Omega.{arith}
+use borrow.Author.Rules.{rules}
+use borrow.Author.Tests.{lt-ltb, le-ltb}
+use Rattle.unpack.specs.Subband.{checked_data, headed}
+use Rattle.unpack.proofs.data.read_headed.Goals as goal
+
+pub returns-then-index-gt-QUANTISER_MOST : goal.returns-then-index-gt-QUANTISER_MOST
+unfolding headed checked_data
+returns-then-index-gt-QUANTISER_MOST c = rw (c.in-Coded.is, lt-ltb 115 _ c.if-index-gt-QUANTISER_MOST.true)
+
+pub overflow_add-bit : goal.overflow_add-bit
+overflow_add-bit c =
+    let sound = rw c.in-Coded.is at c.requires.2 in
+    omega (arith, sound.0, sound.1)
+
+pub overflow_mul-result : goal.overflow_mul-result
+overflow_mul-result c =
+    let sound = rw c.in-Coded.is at c.requires.2 in
+    omega (arith, sound.0, sound.1, c.if-bytes-bit.true)
+
+pub returns-then-bytes-bit : goal.returns-then-bytes-bit
+unfolding headed checked_data
+returns-then-bytes-bit c = rw (c.in-Coded.is, le-ltb 115 _ c.if-index-gt-QUANTISER_MOST.false, lt-ltb _ _ c.if-bytes-bit.true)
+
+pub read_data-requires : goal.read_data-requires
+read_data-requires c =
+    let sound = rw c.in-Coded.is at c.requires.2 in
+    (c.requires.0, c.requires.1, c.quantiser_of-q.ensures.1, sound.0, sound.1, c.if-bytes-bit.false, c.requires.3)
+
+pub returns-in-Skipped : goal.returns-in-Skipped
+unfolding headed
+returns-in-Skipped c = rw c.in-Skipped.is
+
+pub returns-else-bytes-bit : goal.returns-else-bytes-bit
+unfolding headed checked_data
+returns-else-bytes-bit c =
+    rw (
+      c.in-Coded.is,
+      le-ltb 115 _ c.if-index-gt-QUANTISER_MOST.false,
+      le-ltb _ _ c.if-bytes-bit.false,
+    )
+    (rw c.quantiser_of-q.ensures.0 at c.read_data.ensures)
+
+pub returns-in-Refused : goal.returns-in-Refused
+unfolding headed
+returns-in-Refused c = rw c.in-Refused.is
