@@ -84,10 +84,10 @@ moving_line() {
 }
 
 # follow CRATE START LOG: reads what rt prints on the way to CRATE, keeps it in LOG, and shows how far it has come: on a terminal as one
-# line that moves, elsewhere as a line for each crate that was proved. A crate that has not changed is counted and not shown. rt prints
-# the lines of crates that run side by side when the last of them has ended; target/log/NAME.say is there from the start of NAME on.
+# line that moves, elsewhere as a line for each crate that was proved. rt says which crate it begins, and ends with a line on its modules;
+# of a crate that has not changed it says nothing. Crates are numbered in the order in which they are built from each other.
 follow() {
-    local start=$2 log=$3 crates total count=0 proved=' ' running crate line='' part status terminal=''
+    local start=$2 log=$3 crates total since=$SECONDS running='' number line='' part status terminal=''
     crates=$(crates_of "$1")
     total=$(wc -w <<<"$crates")
     [ ! -t 2 ] || terminal=yes
@@ -97,51 +97,47 @@ follow() {
         line+=$part
         if [ "$status" -eq 0 ]; then
             printf '%s\n' "$line" >>"$log"
-            if [[ $line =~ ^'rt: '([A-Za-z0-9_]+)' proved ('(.*)')'$ && $proved != *" ${BASH_REMATCH[1]} "* ]]; then
-                crate=${BASH_REMATCH[1]}
-                proved+="$crate "
-                count=$((count + 1))
-                [ -n "$terminal" ] || [[ ${BASH_REMATCH[2]} = unchanged* ]] || say "$count of $total proved: $crate (${BASH_REMATCH[2]})"
+            if [[ $line =~ ^'rt: chose --jobs '[0-9]+' for '([A-Za-z0-9_]+)$ ]]; then
+                running=${BASH_REMATCH[1]} since=$SECONDS
+            elif [[ $line =~ ^'crate '([A-Za-z0-9_]+)': modules ' ]]; then
+                number=$(grep -n -x "${BASH_REMATCH[1]}" <<<"$crates" | cut -d: -f1)
+                [ -n "$terminal" ] || say "${number:-?} of $total proved: ${BASH_REMATCH[1]} ($((SECONDS - since)) s)"
+                running=''
             fi
             line=''
         elif [ "$status" -le 128 ]; then
             break
-        elif [ -n "$terminal" ]; then
+        elif [ -n "$terminal" ] && [ -n "$running" ]; then
             # A second without a line.
-            running=''
-            for crate in $crates; do
-                if [[ $proved != *" $crate "* && $top/target/log/$crate.say -nt $log.start ]]; then running+=", $crate"; fi
-            done
-            moving_line "$name: proving $((count < total ? count + 1 : total)) of $total${running/, /: } ($(elapsed "$start"))"
+            number=$(grep -n -x "$running" <<<"$crates" | cut -d: -f1)
+            moving_line "$name: proving ${number:-?} of $total: $running ($(elapsed "$start"))"
         fi
     done
     [ -z "$terminal" ] || moving_line ""
 }
 
-# rt_shown CRATE START LOG WORDS..: runs rt at the top, on the way to CRATE, and shows how far it has come. The standard input is not for rt.
+# rt_shown CRATE START LOG WORDS..: runs rt in the crate's folder, and shows how far it has come. The standard input is not for rt.
 rt_shown() {
-    (cd "$top" && exec rt "${@:4}") </dev/null 2>&1 | follow "$1" "$2" "$3"
+    (cd "$top/crates/$1" && exec rt "${@:4}") </dev/null 2>&1 | follow "$1" "$2" "$3"
     return "${PIPESTATUS[0]}"
 }
 
 # build KIND CRATE: proves what is not proved yet of CRATE and all below it, and writes the program target/bin/CRATE or the archive
-# target/staticlib/libCRATE.a. Ends the script where that fails, with all that rt said.
+# target/staticlib/libCRATE.a. Ends the script where that fails, with all that rt said. rt links a program in order to run it: so it is
+# asked for its usage.
 build() {
-    local kind=$1 crate=$2 log=$top/target/$name.log start=$SECONDS status below
+    local kind=$1 crate=$2 log=$top/target/$name.log start=$SECONDS made words status
     needs rt
-    mkdir -p "$top/target" && : >"$log" && : >"$log.start" || exit 2
+    mkdir -p "$top/target/bin" "$top/target/staticlib" && : >"$log" && : >"$log.start" || exit 2
     say "proving the $kind $crate and what it is built from, $(crates_of "$crate" | wc -l) crates; from nothing this takes minutes"
     if [ "$kind" = program ]; then
-        rt_shown "$crate" "$start" "$log" check "$crate"
-        status=$?
+        words=(run -- --help) made=$crate
     else
-        # rt check proves crates that do not depend on each other side by side, rt staticlib one after the other.
-        below=$(crates_of "$crate" | sed '$d')
-        # shellcheck disable=SC2086
-        { [ -z "$below" ] || rt_shown "$crate" "$start" "$log" check $below; } && rt_shown "$crate" "$start" "$log" staticlib "$crate"
-        status=$?
+        words=(lib) made=lib$crate.a
     fi
-    if [ "$status" -ne 0 ]; then
+    rt_shown "$crate" "$start" "$log" "${words[@]}"
+    status=$?
+    if [ "$status" -ne 0 ] || ! cp "$top/crates/$crate/out/$made" "$(built "$kind" "$crate")"; then
         cat "$log" >&2
         say "the $kind $crate could not be built"
         exit 2

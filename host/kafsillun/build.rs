@@ -26,7 +26,7 @@ fn main() {
             "cargo::error=the proved library is missing: no file {}",
             archive.display()
         );
-        println!("cargo::error=run `rt staticlib {LIBRARY}` at the repository's top, which proves it and writes it to target/staticlib,");
+        println!("cargo::error=run `./package` at the repository's top, which proves it and writes it to target/staticlib,");
         println!("cargo::error=or set {FOLDER_VARIABLE} to the folder that has it");
         return;
     }

@@ -1,5 +1,6 @@
 // The C interface of the whole decoder: the four public jobs. Parameters of components and answers are those of the transform's interface.
 #![tactic(auto)]
+
 ghost use Rattle.std.specs.Prelude.{◌≡◌};
 ghost use Rattle.unpack.specs.Job.{outcome as unpack_outcome, unpacked};
 ghost use Rattle.transform.specs.Job.{outcome as synthesis_outcome, synthesised};

@@ -1,5 +1,6 @@
 // The next bits of data as one number, and what a table tells of eight of them.
 #![tactic(auto)]
+
 ghost use Rattle.std.specs.Prelude.{◌≡◌, ◌≢◌, ◌+◌, ◌-◌, ◌*◌, ◌/◌, ◌^◌, ◌≤◌, ◌<◌, eqb, length};
 ghost use Rattle.exp_golomb.specs.Bits.{bits_from};
 ghost use Rattle.lookups.specs.Windows.{is_window, window_of};

@@ -1,5 +1,6 @@
 // Document 01, "One subband": the values of a rectangle of a plane, in raster order.
 #![tactic(auto)]
+
 ghost use Rattle.std.specs.Prelude.{◌≤◌, ◌<◌, ◌^◌};
 ghost use Rattle.coefficients.specs.Values.{Decoding};
 ghost use Rattle.coefficients.specs.Portions.{Sound};

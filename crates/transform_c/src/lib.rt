@@ -1,5 +1,6 @@
 // The C interface of the transform, which is shipped without the unpacker; and the parameters and answers of every C function.
 #![tactic(auto)]
+
 ghost use Rattle.std.specs.Prelude.{◌≡◌};
 ghost use Rattle.transform.specs.Job.{outcome, synthesised};
 ghost use Rattle.transform_c.specs.Interface.{parameters_of, answer_of};

@@ -1,5 +1,4 @@
 -- `kafsillun_c::kafsillun_decode` meets its contract: it is `decode::decode` on the parameters that those of C stand for.
-use borrow.Author.Rules.{rules}
 use Rattle.kafsillun_c.proofs.kafsillun_decode.Goals as goal
 
 pub returns : goal.returns

@@ -1,5 +1,4 @@
 -- `kafsillun_c::kafsillun_unpack` meets its contract: it is `unpack::unpack` on the parameters that those of C stand for.
-use borrow.Author.Rules.{rules}
 use Rattle.kafsillun_c.proofs.kafsillun_unpack.Goals as goal
 
 pub returns : goal.returns

@@ -1,6 +1,5 @@
 -- `kafsillun_c::kafsillun_unpack_low_delay` meets its contract: it is `low_delay::unpack_low_delay` on the parameters that those of C stand
 -- for.
-use borrow.Author.Rules.{rules}
 use Rattle.kafsillun_c.proofs.kafsillun_unpack_low_delay.Goals as goal
 
 pub returns : goal.returns

@@ -1,7 +1,6 @@
 -- `lookups::is_window` meets its contract: the tests are the two bounds.
 use mathlib.Core.Path.{sym, ◌∙◌}
 use native.Mathlib.Omega.{arith}
-use borrow.Author.Rules.{rules}
 use borrow.Author.Tests.{lt-leb}
 use Rattle.lookups.proofs.WindowsLaws.{window-first, window-past}
 use Rattle.lookups.proofs.is_window.Goals as goal

@@ -1,6 +1,5 @@
 -- `lookups::lookup_at` meets its contract: the lookup is that of the table's entry.
 use native.Mathlib.Omega.{arith}
-use borrow.Author.Rules.{rules}
 use Rattle.lookups.specs.Lookups.{lookup_of}
 use Rattle.lookups.proofs.lookup_at.Goals as goal
 

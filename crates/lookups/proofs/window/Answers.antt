@@ -1,5 +1,4 @@
 -- `lookups::window` meets its contract: eight bytes are 64 bits, and the shift drops those before the first.
-use borrow.Author.Rules.{rules}
 use Rattle.lookups.proofs.WindowsLaws.{window-whole}
 use Rattle.lookups.proofs.window.Goals as goal
 

@@ -3,7 +3,6 @@ use mathlib.Core.Path.{refl}
 use Prim.Native.Nat.{◌+◌, ◌-◌, ◌*◌, ◌/◌, ◌%◌, ◌≤◌, ◌<◌, ◌^◌}
 use native.Mathlib.Nat.{mul-le-mul, div-le_self}
 use native.Mathlib.Omega.{arith}
-use borrow.Author.Rules.{rules}
 use Rattle.rectangles.specs.Areas.{size_of, value_index}
 use Rattle.rectangles.proofs.AreasLaws.{InArea, in_area, raster-index}
 use Rattle.rectangles.proofs.LayoutsLaws.{covers-all, covers-row, covers-only}

@@ -1,12 +1,10 @@
-use mathlib.Core.Path.{◌≡◌, refl, sym, ap, ◌∙◌}
-use Prim.Native.Nat.{◌+◌, ◌-◌}
+use mathlib.Core.Path.{refl, sym, ap, ◌∙◌}
+use Prim.Native.Nat.{◌+◌}
 use native.Mathlib.Omega.{arith}
-use borrow.Author.Rules.{rules}
 use Rattle.coefficients.specs.Scaling.{scale_of}
 use Rattle.coefficients.specs.Values.{index_of}
 use Rattle.coefficients.specs.Portions.{Reads}
 use Rattle.coefficients.specs.declared.reading.Cursor.{Cursor}
-use Rattle.coefficients.specs.declared.reading.Progress.TheVariants.{At}
 use Rattle.coefficients.proofs.PortionsLaws.{refused-never}
 use Rattle.rectangles.proofs.AreasLaws.{inside-small, inside-same, value-index-inside}
 use Rattle.rectangles.proofs.PortionsLaws.{moved, moved-sound, SoFar, so-far-none, run-ready, so-far-on, reads_over, reads_short}
@@ -26,12 +24,11 @@ layout_of-layout-requires c =
     (inside.wide, inside.narrow, inside.tall, omega arith, omega (arith, value-index-inside _ _ c.loop-i.i inside (omega arith)))
 
 pub read_run-part-requires : goal.read_run-part-requires
-read_run-part-requires c =
-    (
-      run-ready _ _ _ c.layout_of-layout.ensures _ (inside-same c.loop-i.invariant.1.same_length c.requires.0) c.loop-i.invariant.1.clear,
-      rw c.loop-i.invariant.0 (moved-sound _ _ (c.loop-i.invariant.1.before_end _ refl) c.requires.2),
-      c.requires.3,
-    )
+read_run-part-requires c = (
+  run-ready _ _ _ c.layout_of-layout.ensures _ (inside-same c.loop-i.invariant.1.same_length c.requires.0) c.loop-i.invariant.1.clear,
+  rw c.loop-i.invariant.0 (moved-sound _ _ (c.loop-i.invariant.1.before_end _ refl) c.requires.2),
+  c.requires.3,
+)
 
 pub overflow_add-i : goal.overflow_add-i
 overflow_add-i c =

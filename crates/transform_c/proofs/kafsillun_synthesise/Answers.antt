@@ -1,5 +1,4 @@
 -- `transform_c::kafsillun_synthesise` meets its contract: it is `transform::synthesise` on the parameters that those of C stand for.
-use borrow.Author.Rules.{rules}
 use Rattle.transform_c.proofs.kafsillun_synthesise.Goals as goal
 
 pub returns : goal.returns

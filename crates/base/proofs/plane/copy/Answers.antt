@@ -1,10 +1,9 @@
 use mathlib.Core.Path.{◌≡◌, refl, sym, ◌∙◌}
-use Prim.Native.Nat.{◌+◌, ◌≤◌, ◌-◌}
+use Prim.Native.Nat.{◌+◌}
 use native.Mathlib.Omega.{arith}
 use lib.IntN.{pos}
-use lib.ListN.{length, get_or, length-set}
+use lib.ListN.{get_or, length-set}
 use mir.Syntax.{w32}
-use Rattle.base.specs.Fill.{fill}
 use Rattle.base.proofs.FillLaws.{fill_none, fill_more}
 use Rattle.base.proofs.RangeLaws.{back}
 use Rattle.base.proofs.plane.copy.Goals as goal

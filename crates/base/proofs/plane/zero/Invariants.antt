@@ -1,12 +1,9 @@
 -- `base::plane::zero` meets its contract: after i turns the plane is the one that came, with i zeros stored from its start.
-use mathlib.Core.Path.{◌≡◌, refl, sym, ◌∙◌}
+use mathlib.Core.Path.{◌≡◌}
 use Prim.Native.Nat.{◌≤◌, ◌-◌}
-use native.Mathlib.Omega.{arith}
-use borrow.Author.Rules.{rules}
 use lib.IntN.{pos}
-use lib.ListN.{length, length-set}
+use lib.ListN.{length}
 use Rattle.base.specs.Fill.{fill}
-use Rattle.base.proofs.FillLaws.{fill_none, fill_more, fill-zeros}
 use Rattle.base.proofs.plane.zero.Given as goal
 
 abbrev pub invariant-loop-i : goal.invariant-loop-i

@@ -1,9 +1,6 @@
 use mathlib.Core.Path.{◌≡◌, refl, sym, ◌∙◌}
-use Prim.Native.Nat.{◌≤◌, ◌-◌}
 use native.Mathlib.Omega.{arith}
-use lib.IntN.{pos}
-use lib.ListN.{length, length-set}
-use Rattle.base.specs.Fill.{fill}
+use lib.ListN.{length-set}
 use Rattle.base.proofs.FillLaws.{fill_none, fill_more}
 use Rattle.base.proofs.plane.zero_part.Goals as goal
 

@@ -1,11 +1,9 @@
 -- `base::plane::zero_part` meets its contract: after x turns the plane is the one that came, with x zeros stored.
-use mathlib.Core.Path.{◌≡◌, refl, sym, ◌∙◌}
+use mathlib.Core.Path.{◌≡◌}
 use Prim.Native.Nat.{◌≤◌, ◌-◌}
-use native.Mathlib.Omega.{arith}
 use lib.IntN.{pos}
-use lib.ListN.{length, length-set}
+use lib.ListN.{length}
 use Rattle.base.specs.Fill.{fill}
-use Rattle.base.proofs.FillLaws.{fill_none, fill_more}
 use Rattle.base.proofs.plane.zero_part.Given as goal
 
 abbrev pub invariant-loop-x : goal.invariant-loop-x

@@ -1,5 +1,4 @@
 -- `base::signed::with_sign` meets its contract: the size fits, and so does its opposite.
-use borrow.Author.Rules.{rules}
 use lib.IntN.{pos, neg_ℤ}
 use mir.Syntax.{w64}
 use mir.ValLaws.{to_z_pos}

@@ -11,7 +11,6 @@ use Rattle.base.specs.Range.{fits32}
 use Rattle.lifting.specs.Lines.{LineInside, LineWithin, LineLifted, row_start, new_row}
 use Prim.Native.Nat.{ℕ, ◌+◌, ◌*◌, ◌≤◌, ◌<◌}
 use native.Mathlib.Omega.{arith}
-use borrow.Author.Rules.{rules}
 use lib.ListN.{length, get_or}
 use Rattle.base.proofs.Grids.{row_room, rows_apart}
 use Rattle.filters.specs.Pictures.{source_row}
@@ -93,10 +92,14 @@ lifted c answer work' line =
     (rw c.target_row.ensures at line.told) (rw c.target_row.ensures at line.done)
 
 pub returns-then-stays_small : goal.returns-then-stays_small
-returns-then-stays_small c = lifted (goal.at.returns-then-stays_small c).After-target_row true _ c.lift_in_32_bits.ensures
+returns-then-stays_small c =
+    let all = lifted (goal.at.returns-then-stays_small c).After-target_row true _ c.lift_in_32_bits.ensures in
+    record { told = all.0; done = all.1 }
 
 pub lift_exactly-requires : goal.lift_exactly-requires
 lift_exactly-requires c = line-inside (goal.at.lift_exactly-requires c).After-target_row
 
 pub returns : goal.returns
-returns c = lifted (goal.at.returns c).After-target_row _ _ c.lift_exactly.ensures
+returns c =
+    let all = lifted (goal.at.returns c).After-target_row _ _ c.lift_exactly.ensures in
+    record { told = all.0; done = all.1 }

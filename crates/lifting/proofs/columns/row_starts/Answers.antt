@@ -1,9 +1,7 @@
 use mathlib.Core.Path.{◌≡◌, sym}
-use Prim.Native.Nat.{◌+◌, ◌-◌, ◌*◌, ◌≤◌, ◌<◌}
+use Prim.Native.Nat.{◌*◌, ◌<◌}
 use native.Mathlib.Omega.{arith}
-use Rattle.base.specs.Fill.{fill}
 use Rattle.base.proofs.FillLaws.{fill_none, fill_more, get_d-fill-start}
-use Rattle.filters.specs.Pictures.{source_row}
 use Rattle.base.proofs.Grids.{row_room}
 use Rattle.filters.proofs.PicturesLaws.{source-below}
 use Rattle.lifting.proofs.columns.row_starts.Goals as goal

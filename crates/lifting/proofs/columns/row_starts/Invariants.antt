@@ -1,12 +1,8 @@
 -- `lifting::columns::row_starts` meets its contract: after t turns the starts of t taps are stored, each inside the plane.
-use mathlib.Core.Path.{◌≡◌, sym}
-use Prim.Native.Nat.{◌+◌, ◌-◌, ◌*◌, ◌≤◌, ◌<◌}
-use native.Mathlib.Omega.{arith}
+use mathlib.Core.Path.{◌≡◌}
+use Prim.Native.Nat.{◌+◌, ◌-◌, ◌*◌, ◌≤◌}
 use Rattle.base.specs.Fill.{fill}
-use Rattle.base.proofs.FillLaws.{fill_none, fill_more, get_d-fill-start}
 use Rattle.filters.specs.Pictures.{source_row}
-use Rattle.base.proofs.Grids.{row_room}
-use Rattle.filters.proofs.PicturesLaws.{source-below}
 use Rattle.lifting.proofs.columns.row_starts.Given as goal
 
 abbrev pub invariant-loop-t : goal.invariant-loop-t

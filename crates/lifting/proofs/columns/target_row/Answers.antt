@@ -1,6 +1,5 @@
 -- `lifting::columns::target_row` meets its contract: the pair's even row, or its odd one.
 use native.Mathlib.Omega.{arith}
-use borrow.Author.Rules.{rules}
 use Rattle.filters.specs.Pictures.{target_row}
 use Rattle.lifting.proofs.columns.target_row.Goals as goal
 

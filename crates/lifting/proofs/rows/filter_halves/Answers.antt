@@ -1,16 +1,12 @@
 use mathlib.Core.Path.{◌≡◌, refl, sym, ◌∙◌}
-use mathlib.Core.Bool.{true, false, false≢true}
+use mathlib.Core.Bool.{false, false≢true}
 use mathlib.Core.List.{[], map}
-use Prim.Native.Nat.{◌-◌, ◌*◌, ◌≤◌, ◌<◌}
+use Prim.Native.Nat.{◌<◌}
 use native.Mathlib.Omega.{arith}
-use borrow.Author.Tests.{not-true, not-false}
 use lib.ListN.{length, get_or, take}
 use lib.Seq.{take_all}
-use Rattle.lines.specs.Buffers.{interleaved}
-use Rattle.filters.specs.Pictures.{Agree}
 use Rattle.filters.specs.Passes.{rows, run, run_all, all_new_fit}
-use Rattle.lifting.specs.LineBounds.{HalvesWithin}
-use Rattle.filters.specs.Table.{step_of, WellFormedStep, steps_in_use, filter_from}
+use Rattle.filters.specs.Table.{step_of, WellFormedStep, filter_from}
 use Rattle.filters.specs.declared.filter.LiftingStep.{LiftingStep}
 use Rattle.filters.proofs.PassesLaws.{passes-more, passes-stop, rows_same}
 use Rattle.filters.proofs.LiftingLaws.{twice-length}
@@ -42,18 +38,18 @@ is-pass c = pass-in-use c.args.filter c.requires.le_half.2.there rows c.loop-k.k
 pub bounds-steps-k : goal.bounds-steps-k
 bounds-steps-k c = omega (arith, c.loop-k-test.true, c.requires.le_half.2.few)
 
-pub offset_bounds-steps-k : goal.offset_bounds-steps-k
-offset_bounds-steps-k c = omega (arith, array-copy-out-step (goal.at.offset_bounds-steps-k c).In-loop-k)
-
 pub lift_halves-requires : goal.lift_halves-requires
 lift_halves-requires c =
     record { le_half = (c.requires.le_half.0, c.requires.le_half.1, formed (goal.at.lift_halves-requires c).In-loop-k); halves_within = c.loop-k.invariant.3 }
 
 pub returns-then-not-lift_halves : goal.returns-then-not-lift_halves
 returns-then-not-lift_halves c =
-    let same = rows_same _ _ (twice-length _ c.requires.le_half.0) (step_of (next (goal.at.returns-then-not-lift_halves c).In-loop-k)) in record { told = sym
+    let same = rows_same _ _ (twice-length _ c.requires.le_half.0) (step_of (next (goal.at.returns-then-not-lift_halves c).In-loop-k)) in record {
+      told = sym
           (passes-stop _ _ _ c.loop-k.k _ _ _ (inside-passes (goal.at.returns-then-not-lift_halves c).In-loop-k) (is-pass (goal.at.returns-then-not-lift_halves c).In-loop-k) same c.loop-k.invariant.1 c.loop-k.invariant.2
-          (sym c.lift_halves.ensures.told ∙ not-true _ c.if-not-lift_halves.true)); done = λ wrong. absurd (false≢true wrong) }
+          (sym c.lift_halves.ensures.told ∙ c.if-not-lift_halves.true));
+      done = λ wrong. absurd (false≢true wrong);
+    }
 
 pub bounds_after-bounds-requires : goal.bounds_after-bounds-requires
 bounds_after-bounds-requires c =
@@ -69,7 +65,7 @@ loop-k-smaller c = omega (arith, c.loop-k-test.true)
 pub loop-k-preserved : goal.loop-k-preserved
 unfolding run
 loop-k-preserved c =
-    let went = not-false _ c.if-not-lift_halves.false in
+    let went = c.if-not-lift_halves.false in
     let same = rows_same _ _ (twice-length _ c.requires.le_half.0) (step_of (next (goal.at.loop-k-preserved c).In-loop-k)) in
     let more =
     passes-more _ _ _ c.loop-k.k _ _ _ (inside-passes (goal.at.loop-k-preserved c).In-loop-k) (is-pass (goal.at.loop-k-preserved c).In-loop-k) same c.loop-k.invariant.1 c.loop-k.invariant.2 _

@@ -1,22 +1,15 @@
 -- `lifting::rows::filter_halves` meets its contract: after k turns the row is what the first k steps make of it, and their new numbers fit;
 -- the halves keep to the bounds.
-use mathlib.Core.Path.{◌≡◌, refl, sym, ◌∙◌}
-use mathlib.Core.Bool.{true, false, false≢true}
-use mathlib.Core.List.{[], map}
-use Prim.Native.Nat.{◌-◌, ◌*◌, ◌≤◌, ◌<◌}
-use native.Mathlib.Omega.{arith}
-use borrow.Author.Tests.{not-true, not-false}
-use lib.ListN.{length, get_or, take}
-use lib.Seq.{take_all}
+use mathlib.Core.Path.{◌≡◌}
+use mathlib.Core.Bool.{true}
+use mathlib.Core.List.{map}
+use Prim.Native.Nat.{◌-◌, ◌*◌, ◌≤◌}
+use lib.ListN.{take}
 use Rattle.lines.specs.Buffers.{interleaved}
 use Rattle.filters.specs.Pictures.{Agree}
-use Rattle.filters.specs.Passes.{rows, run, run_all, all_new_fit}
+use Rattle.filters.specs.Passes.{rows, run_all, all_new_fit}
 use Rattle.lifting.specs.LineBounds.{HalvesWithin}
-use Rattle.filters.specs.Table.{step_of, WellFormedStep, steps_in_use, filter_from}
-use Rattle.filters.specs.declared.filter.LiftingStep.{LiftingStep}
-use Rattle.filters.proofs.PassesLaws.{passes-more, passes-stop, rows_same}
-use Rattle.filters.proofs.LiftingLaws.{twice-length}
-use Rattle.filters.proofs.TableLaws.{passes-counted, pass-inside, pass-in-use}
+use Rattle.filters.specs.Table.{steps_in_use}
 use Rattle.lifting.proofs.rows.filter_halves.Given as goal
 
 abbrev pub invariant-loop-k : goal.invariant-loop-k

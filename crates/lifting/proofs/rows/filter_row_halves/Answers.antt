@@ -2,7 +2,6 @@
 use mathlib.Core.Path.{◌≡◌, ◌∙◌}
 use Prim.Native.Nat.{ℕ, ◌+◌, ◌*◌, ◌<◌}
 use native.Mathlib.Omega.{arith}
-use borrow.Author.Rules.{rules}
 use lib.IntN.{pos}
 use lib.ListN.{get_or}
 use Rattle.lines.specs.Buffers.{interleaved}
@@ -37,7 +36,10 @@ copied c =
 pub returns : goal.returns
 returns c =
     let steps = (filter_from c.args.filter).steps in
-    let halves = c.copy_measured-high_most.new.plane in record { told = c.filter_halves.ensures.told
-          ∙ row_told steps c.args.half c.args.start c.requires.1.0 c.args.work.now halves (copied (goal.at.returns c).After-copy_measured-high_most); done = λ fits x inside.
+    let halves = c.copy_measured-high_most.new.plane in record {
+      told = c.filter_halves.ensures.told
+          ∙ row_told steps c.args.half c.args.start c.requires.1.0 c.args.work.now halves (copied (goal.at.returns c).After-copy_measured-high_most);
+      done = λ fits x inside.
           c.filter_halves.ensures.done fits x inside
-          ∙ row-run steps c.args.half c.args.start c.requires.1.0 c.args.work.now halves (copied (goal.at.returns c).After-copy_measured-high_most) x inside }
+          ∙ row-run steps c.args.half c.args.start c.requires.1.0 c.args.work.now halves (copied (goal.at.returns c).After-copy_measured-high_most) x inside;
+    }

@@ -1,11 +1,10 @@
 -- `lifting::rows::lift_halves` meets its contract: the half of the elements that the step changes is lifted by the other, whose ends are repeated, as
 -- the indices that are clamped say.
-use mathlib.Core.Path.{◌≡◌, sym, ◌∙◌}
+use mathlib.Core.Path.{◌≡◌}
 use mathlib.Core.Bool.{true, not}
 use mathlib.Core.List.{List}
 use Prim.Native.Nat.{◌+◌, ◌≤◌}
 use native.Mathlib.Omega.{arith}
-use borrow.Author.Rules.{rules}
 use lib.IntN.{ℤ}
 use lib.ListN.{length}
 use Rattle.lifting.specs.Layout.{base_of}
@@ -56,8 +55,8 @@ ready c =
       formed = c.requires.le_half.2;
       some = c.requires.le_half.0;
       apart = bases-apart c.args.step.even c.args.half c.requires.le_half.1;
-      ends = rw source at ends.0;
-      rest = rw source at ends.1;
+      ends = rw source at ends.repeated;
+      rest = rw source at ends.kept;
       placed = rw source at c.line_starts-starts.ensures;
       targets = within.0;
       sources = within.1;
@@ -82,16 +81,21 @@ line-inside c long =
           (λ e. (ready c).apart (4 + k) (c.args.step.lead + t + x) (omega arith) (omega (arith, formed.in_buffer)) (omega (arith, e)));
     }
 
-pub lift_in_32_bits-requires : goal.lift_in_32_bits-requires
-lift_in_32_bits-requires c =
-    let long : length (extended (goal.at.lift_in_32_bits-requires c).After-line_starts-starts) ≡ 4112 = omega arith in
-    let known = ready (goal.at.lift_in_32_bits-requires c).After-line_starts-starts in record { line_inside = rw c.base_of-target.ensures (line-inside (goal.at.lift_in_32_bits-requires c).After-line_starts-starts long, record { sources = half-reads known; target = half-old known }); bounds_value = sym c.stays_small.ensures ∙ c.if-stays_small.true }
+pub lift_in_32_bits-requires-clause-line_inside : goal.lift_in_32_bits-requires-clause-line_inside
+lift_in_32_bits-requires-clause-line_inside c =
+    let long : length (extended (goal.at.lift_in_32_bits-requires-clause-line_inside c).After-line_starts-starts) ≡ 4112 = omega arith in
+    let known = ready (goal.at.lift_in_32_bits-requires-clause-line_inside c).After-line_starts-starts in
+    rw c.base_of-target.ensures
+    (line-inside (goal.at.lift_in_32_bits-requires-clause-line_inside c).After-line_starts-starts long, record { sources = half-reads known; target = half-old known })
 
 pub returns-then-stays_small : goal.returns-then-stays_small
 returns-then-stays_small c =
     let long : length (extended (goal.at.returns-then-stays_small c).After-line_starts-starts) ≡ 4112 = omega arith in
+    let all =
     halves-done _ _ _ _ _ _ c.requires.halves_within
     (half-lifted (ready (goal.at.returns-then-stays_small c).After-line_starts-starts) true _ (line-inside (goal.at.returns-then-stays_small c).After-line_starts-starts long).inside (rw c.base_of-target.ensures at c.lift_in_32_bits.ensures))
+    in
+    record { told = all.0; done = all.1.0; bounded = all.1.1 }
 
 pub lift_exactly-requires : goal.lift_exactly-requires
 lift_exactly-requires c =
@@ -101,5 +105,8 @@ lift_exactly-requires c =
 pub returns : goal.returns
 returns c =
     let long : length (extended (goal.at.returns c).After-line_starts-starts) ≡ 4112 = omega arith in
+    let all =
     halves-done _ _ _ _ _ _ c.requires.halves_within
     (half-lifted (ready (goal.at.returns c).After-line_starts-starts) c.lift_exactly.result _ (line-inside (goal.at.returns c).After-line_starts-starts long).inside (rw c.base_of-target.ensures at c.lift_exactly.ensures))
+    in
+    record { told = all.0; done = all.1.0; bounded = all.1.1 }

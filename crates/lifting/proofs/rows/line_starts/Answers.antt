@@ -1,7 +1,5 @@
 use mathlib.Core.Path.{◌≡◌, sym}
-use Prim.Native.Nat.{◌+◌, ◌-◌, ◌≤◌}
 use native.Mathlib.Omega.{arith}
-use Rattle.base.specs.Fill.{fill}
 use Rattle.base.proofs.FillLaws.{fill_none, fill_more, get_d-fill-start}
 use Rattle.lifting.proofs.rows.line_starts.Goals as goal
 

@@ -1,9 +1,7 @@
 -- `lifting::rows::line_starts` meets its contract: after t turns the first t starts are stored.
-use mathlib.Core.Path.{◌≡◌, sym}
+use mathlib.Core.Path.{◌≡◌}
 use Prim.Native.Nat.{◌+◌, ◌-◌, ◌≤◌}
-use native.Mathlib.Omega.{arith}
 use Rattle.base.specs.Fill.{fill}
-use Rattle.base.proofs.FillLaws.{fill_none, fill_more, get_d-fill-start}
 use Rattle.lifting.proofs.rows.line_starts.Given as goal
 
 abbrev pub invariant-loop-t : goal.invariant-loop-t

@@ -1,12 +1,8 @@
 use mathlib.Core.Path.{◌≡◌, refl, sym, ◌∙◌}
 use mathlib.Core.Bool.{Bool, true, false, false≢true}
-use Prim.Native.Nat.{ℕ, ◌+◌, ◌-◌, ◌≤◌}
+use Prim.Native.Nat.{ℕ, ◌+◌, ◌≤◌}
 use native.Mathlib.Omega.{arith}
-use borrow.Author.Rules.{rules}
-use borrow.Author.Tests.{not-true, not-false}
-use lib.ListN.{length}
 use Rattle.base.specs.Every.{all_below}
-use Rattle.base.specs.Fill.{fill}
 use Rattle.base.specs.Range.{fits32}
 use Rattle.base.proofs.EveryLaws.{all_none, all-part, all_append}
 use Rattle.base.proofs.FillLaws.{fill_none}
@@ -31,7 +27,6 @@ overflow_add-start c =
 
 -- The part that a turn lifts.
 module _ (c : After-moved_by-part_starts) where
-
   abbrev part : ℕ
   part = c.part_width-part.result
 
@@ -42,19 +37,17 @@ module _ (c : After-moved_by-part_starts) where
   some = c.part_width-part.ensures.2 (omega (arith, c.loop-done-test.true))
 
 pub lift_part-requires : goal.lift_part-requires
-lift_part-requires c =
-    (
-      part-inside c.args.step c.args.starts.now c.args.plane.now c.args.start c.args.width c.requires c.loop-done.done c.loop-done.plane c.loop-done.invariant.2
-          c.moved_by-part_starts.result c.moved_by-part_starts.ensures (part (goal.at.lift_part-requires c).After-moved_by-part_starts) (within (goal.at.lift_part-requires c).After-moved_by-part_starts),
-      c.part_width-part.ensures.0,
-    )
+lift_part-requires c = (
+  part-inside c.args.step c.args.starts.now c.args.plane.now c.args.start c.args.width c.requires c.loop-done.done c.loop-done.plane c.loop-done.invariant.2
+      c.moved_by-part_starts.result c.moved_by-part_starts.ensures (part (goal.at.lift_part-requires c).After-moved_by-part_starts) (within (goal.at.lift_part-requires c).After-moved_by-part_starts),
+  c.part_width-part.ensures.0,
+)
 
 pub shape_of-plane-then-not-lift_part : goal.shape_of-plane-then-not-lift_part
 shape_of-plane-then-not-lift_part c = c.lift_part.auto.plane ∙ c.loop-done.invariant.1
 
 -- What it is told and what it leaves.
 module _ (c : After-lift_part) where
-
   abbrev new : ℕ → Bool
   new x = fits32 (line_new c.args.step c.args.starts.now c.args.plane.now c.args.start x)
 
@@ -71,7 +64,7 @@ returns-then-not-lift_part c =
     by true e =
         absurd
         (false≢true
-        (sym (not-true _ c.if-not-lift_part.true) ∙ told (goal.at.returns-then-not-lift_part c).After-lift_part ∙ all-part (new (goal.at.returns-then-not-lift_part c).After-lift_part) c.args.width c.loop-done.done (part (goal.at.returns-then-not-lift_part c).After-moved_by-part_starts) e (within (goal.at.returns-then-not-lift_part c).After-moved_by-part_starts)))
+        (sym c.if-not-lift_part.true ∙ told (goal.at.returns-then-not-lift_part c).After-lift_part ∙ all-part (new (goal.at.returns-then-not-lift_part c).After-lift_part) c.args.width c.loop-done.done (part (goal.at.returns-then-not-lift_part c).After-moved_by-part_starts) e (within (goal.at.returns-then-not-lift_part c).After-moved_by-part_starts)))
     by false e = sym e
 
 pub overflow_add-done : goal.overflow_add-done
@@ -84,7 +77,7 @@ loop-done-smaller c =
 
 pub loop-done-preserved : goal.loop-done-preserved
 loop-done-preserved c =
-    let went : c.lift_part.result ≡ true = not-false _ c.if-not-lift_part.false in (
+    let went : c.lift_part.result ≡ true = c.if-not-lift_part.false in (
       within (goal.at.loop-done-preserved c).After-moved_by-part_starts,
       c.lift_part.auto.plane ∙ c.loop-done.invariant.1,
       part-done c.args.step c.args.starts.now c.args.plane.now c.args.start c.args.width c.requires c.loop-done.done c.loop-done.plane c.loop-done.invariant.2

@@ -1,18 +1,12 @@
 -- `lifting::steps::lift_exactly` meets its contract: after some turns the first numbers of the line are lifted, and the rest is as it was.
-use mathlib.Core.Path.{◌≡◌, refl, sym, ◌∙◌}
-use mathlib.Core.Bool.{Bool, true, false, false≢true}
-use Prim.Native.Nat.{ℕ, ◌+◌, ◌-◌, ◌≤◌}
-use native.Mathlib.Omega.{arith}
-use borrow.Author.Rules.{rules}
-use borrow.Author.Tests.{not-true, not-false}
+use mathlib.Core.Path.{◌≡◌}
+use mathlib.Core.Bool.{true}
+use Prim.Native.Nat.{◌-◌, ◌≤◌}
 use lib.ListN.{length}
 use Rattle.base.specs.Every.{all_below}
 use Rattle.base.specs.Fill.{fill}
 use Rattle.base.specs.Range.{fits32}
-use Rattle.base.proofs.EveryLaws.{all_none, all-part, all_append}
-use Rattle.base.proofs.FillLaws.{fill_none}
 use Rattle.lifting.specs.Lines.{line_new}
-use Rattle.lifting.proofs.LinesLaws.{part-inside, part-told, part-done}
 use Rattle.lifting.proofs.steps.lift_exactly.Given as goal
 
 abbrev pub invariant-loop-done : goal.invariant-loop-done

@@ -1,10 +1,8 @@
 -- `lifting::steps::moved_by` meets its contract: after t turns the first t starts are stored.
-use mathlib.Core.Path.{◌≡◌, sym}
+use mathlib.Core.Path.{◌≡◌}
 use Prim.Native.Nat.{◌+◌, ◌-◌, ◌≤◌}
-use native.Mathlib.Omega.{arith}
 use lib.ListN.{get_or}
 use Rattle.base.specs.Fill.{fill}
-use Rattle.base.proofs.FillLaws.{fill_none, fill_more, get_d-fill-start}
 use Rattle.lifting.proofs.steps.moved_by.Given as goal
 
 abbrev pub invariant-loop-t : goal.invariant-loop-t
