@@ -6,7 +6,8 @@ use Prim.Native.Nat.{◌^◌, ◌<◌}
 use lib.Dec.{leb-suc-suc}
 use lib.IntN.{ℤ, pos, negsuc}
 use lib.Signed.{mag, le_z}
-use mir.Syntax.{Width}
+use mir.Syntax.{Width, w64}
+use Rattle.std.proofs.Common.{FitsSigned}
 use mir.Val.{to_z, of_z, hbits}
 use mir.ValLaws.{to_z-of_z}
 use borrow.Author.Tests.{lt-ltb, ltb-true}
@@ -35,3 +36,10 @@ pub fits32-lower : (z : ℤ) → le_z (negsuc 2147483647) z ≡ false → false 
 unfolding fits32
 fits32-lower (pos n) e = cc
 fits32-lower (negsuc n) e = sym (leb-suc-suc n 2147483647 ∙ e)
+
+-- the same tests of a number read back from its bits
+pub fits32_above : (z : ℤ) → FitsSigned w64 z → le_z (negsuc 2147483647) (to_z w64 (of_z w64 z)) ≡ true → le_z (to_z w64 (of_z w64 z)) (pos 2147483647) ≡ fits32 z
+fits32_above z h e = let b = back w64 z h.sfits in rw b (fits32-upper z (rw b at e))
+
+pub fits32_under : (z : ℤ) → FitsSigned w64 z → le_z (negsuc 2147483647) (to_z w64 (of_z w64 z)) ≡ false → le_z (negsuc 2147483647) (to_z w64 (of_z w64 z)) ≡ fits32 z
+fits32_under z h e = let b = back w64 z h.sfits in let low = rw b at e in rw b (low ∙ fits32-lower z low)

@@ -13,6 +13,7 @@ pub fn widen(x: i32) -> i64
 }
 
 // Whether the number fits signed 32 bits.
+#[tactic(auto, using(crate::proofs::RangeLaws::fits32_above, crate::proofs::RangeLaws::fits32_under))]
 pub fn fits_i32(x: i64) -> bool
     ensures { result ≡ fits32 x }
 {

@@ -1,6 +1,7 @@
 // Lines of a plane lifted in place, where sums and new numbers stay within 32 bits, so that nothing is tested on the way. What comes out is what
 // the exact sums give.
 #![tactic(auto)]
+
 pub mod arithmetic;
 pub mod known_taps;
 pub mod loops;

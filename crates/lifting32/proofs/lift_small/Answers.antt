@@ -2,7 +2,6 @@
 use mathlib.Core.Path.{◌≡◌, ◌∙◌}
 use Prim.Native.Nat.{◌*◌, ◌/◌}
 use native.Mathlib.Omega.{arith}
-use borrow.Author.Rules.{rules}
 use mir.Syntax.{w32}
 use mir.Val.{to_z, of_z}
 use Rattle.base.proofs.RangeLaws.{back}
@@ -29,7 +28,7 @@ pub pair_tap-inner-requires : goal.pair_tap-inner-requires
 pair_tap-inner-requires c = taps-fit c.requires 2 c.in-4.is
 
 pub pair_tap-requires-in-4 : goal.pair_tap-requires-in-4
-pair_tap-requires-in-4 c = pair-tap-requires-2 (goal.at.pair_tap-requires-in-4 c).After-paired_line-paired-in-4 κs
+pair_tap-requires-in-4 c = taps-fit c.requires 2 c.in-4.is
 
 inner : (c : After-pair_tap-inner) → to_z w32 (of_z w32 c.pair_tap-inner.result) ≡ pair_tap c.args.taps.now 2 0
 inner c = back w32 _ c.pair_tap-inner.type_inv ∙ c.pair_tap-inner.ensures

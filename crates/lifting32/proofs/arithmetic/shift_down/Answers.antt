@@ -1,7 +1,6 @@
 -- `lifting32::arithmetic::shift_down` meets its contract: the quotient is no larger than the number.
 use Prim.Native.Nat.{◌^◌}
 use native.Mathlib.Nat.{lt_of_le_of_lt}
-use borrow.Author.Rules.{rules}
 use lib.Signed.{shr_z, mag_shr}
 use mir.Syntax.{w32}
 use Rattle.base.proofs.RangeLaws.{back}

@@ -1,7 +1,6 @@
 -- `lifting32::known_taps::lift_more_pairs` meets its contract: each branch is the same call, by the taps of the pairs.
 use mathlib.Core.Path.{◌≡◌, refl, ◌∙◌}
 use Prim.Native.Nat.{ℕ}
-use borrow.Author.Rules.{rules}
 use lib.IntN.{ℤ}
 use mir.Syntax.{w32}
 use mir.Val.{to_z, of_z}
@@ -44,7 +43,6 @@ tap-3 c = back w32 _ c.pair_tap-t3.type_inv ∙ c.pair_tap-t3.ensures
 
 -- by these the line can be lifted, and becomes what is wanted
 module _ (c : After-pair_tap-t3) where
-
   abbrev t0 : ℤ
   t0 = handed c.pair_tap-t0.result
 

@@ -1,7 +1,6 @@
 -- `lifting32::known_taps::lift_single` meets its contract: each branch is the same call, by the first tap.
 use mathlib.Core.Path.{◌≡◌, ◌∙◌}
 use native.Mathlib.Omega.{arith}
-use borrow.Author.Rules.{rules}
 use lib.IntN.{pos}
 use lib.ListN.{get_or}
 use mir.Syntax.{w32, w64}
@@ -20,7 +19,7 @@ pub narrow-tap-requires : goal.narrow-tap-requires
 narrow-tap-requires c = rw (first (goal.at.narrow-tap-requires c).After-narrow-arg-1) (size-fits32 _ (c.requires.small_taps 0 (omega arith)))
 
 tap : (c : After-narrow-tap) → to_z w32 (of_z w32 c.narrow-tap.result) ≡ get_or c.args.taps.now 0 (pos 0)
-tap c = back w32 _ c.narrow-tap.type_inv ∙ c.narrow-tap.ensures ∙ first c.before
+tap c = back w32 _ c.narrow-tap.type_inv ∙ c.narrow-tap.ensures ∙ back w64 _ c.narrow-arg-1.given
 
 pub lift_one-requires : goal.lift_one-requires
 lift_one-requires c = rw (tap (goal.at.lift_one-requires c).After-narrow-tap) (by_one c.requires)

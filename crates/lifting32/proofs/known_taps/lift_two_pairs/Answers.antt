@@ -1,6 +1,5 @@
 -- `lifting32::known_taps::lift_two_pairs` meets its contract: each branch is the same call.
 use mathlib.Core.Path.{◌≡◌}
-use borrow.Author.Rules.{rules}
 use mir.Syntax.{w32}
 use mir.Val.{to_z, of_z}
 use Rattle.base.proofs.RangeLaws.{back}

@@ -1,12 +1,11 @@
 use mathlib.Core.Path.{◌≡◌, refl, sym, ◌∙◌}
 use mathlib.Core.Bool.{false≢true}
-use Prim.Native.Nat.{ℕ, ◌+◌, ◌-◌, ◌≤◌}
+use Prim.Native.Nat.{ℕ, ◌+◌}
 use native.Mathlib.Omega.{arith}
 use lib.IntN.{ℤ, pos, ◌+ℤ◌, ◌*ℤ◌}
-use lib.ListN.{length, get_or, length-set}
+use lib.ListN.{get_or, length-set}
 use mir.Syntax.{w32}
 use mir.Val.{to_z, of_z}
-use Rattle.base.specs.Fill.{fill}
 use Rattle.base.proofs.FillLaws.{fill_none}
 use Rattle.base.proofs.RangeLaws.{back}
 use Rattle.lines.specs.Sums.{new_at}
@@ -19,7 +18,7 @@ pub loop-x-init : goal.loop-x-init
 loop-x-init c = (omega arith, refl, sym (fill_none _ _ _))
 
 -- the call's start, the turn's entry, and the arguments as they are handed on
-abbrev begin : In-loop-x → tie.Start
+abbrev begin : In-loop-x → Start
 begin t = t.before.before.before
 
 abbrev at : In-loop-x → ℕ
@@ -84,12 +83,11 @@ bounds-plane-start c =
     rw c.loop-x.invariant.1 (omega (arith, (begin (goal.at.bounds-plane-start c).In-loop-x).requires.line_fits.inside, c.loop-x-test.true))
 
 pub loop-x-preserved : goal.loop-x-preserved
-loop-x-preserved c =
-    (
-      omega arith,
-      simp length-set c.loop-x.invariant.1,
-      stored _ _ _ _ _ c.loop-x.invariant.2 _ (made (goal.at.loop-x-preserved c).After-lifted ∙ rw (round (goal.at.loop-x-preserved c).After-struct_told-1, tap (begin (goal.at.loop-x-preserved c).In-loop-x)) refl),
-    )
+loop-x-preserved c = (
+  omega arith,
+  simp length-set c.loop-x.invariant.1,
+  stored _ _ _ _ _ c.loop-x.invariant.2 _ (made (goal.at.loop-x-preserved c).After-lifted ∙ rw (round (goal.at.loop-x-preserved c).After-struct_told-1, tap (begin (goal.at.loop-x-preserved c).In-loop-x)) refl),
+)
 
 pub shape_of-plane : goal.shape_of-plane
 shape_of-plane c = c.loop-x.invariant.1

@@ -1,11 +1,10 @@
 use mathlib.Core.Path.{◌≡◌, refl, sym, ◌∙◌}
-use Prim.Native.Nat.{ℕ, ◌+◌, ◌-◌, ◌≤◌, ◌<◌}
+use Prim.Native.Nat.{ℕ, ◌+◌, ◌<◌}
 use native.Mathlib.Omega.{arith}
 use lib.IntN.{ℤ, pos}
-use lib.ListN.{length, get_or, length-set}
+use lib.ListN.{get_or, length-set}
 use mir.Syntax.{w32}
 use mir.Val.{to_z, of_z}
-use Rattle.base.specs.Fill.{fill}
 use Rattle.base.proofs.FillLaws.{fill_none}
 use Rattle.base.proofs.RangeLaws.{back}
 use Rattle.lines.specs.Sums.{new_at}
@@ -20,7 +19,7 @@ pub loop-x-init : goal.loop-x-init
 loop-x-init c = (omega arith, refl, sym (fill_none _ _ _))
 
 -- the call's start, the turn's entry, and the taps as they are handed on
-abbrev begin : In-loop-x → tie.Start
+abbrev begin : In-loop-x → Start
 begin t = t.before.before.before
 
 abbrev at : In-loop-x → ℕ

@@ -1,6 +1,5 @@
 -- `lifting32::loops::with_outer_pair` meets its contract: a tap of 0 adds nothing.
 use mathlib.Core.Path.{◌≡◌, refl, sym, ◌∙◌}
-use borrow.Author.Rules.{rules}
 use lib.IntN.{pos}
 use mir.Syntax.{w32}
 use mir.Val.{to_z, of_z}

@@ -1,7 +1,6 @@
 -- `lifting32::loops::with_pair` meets its contract: the two numbers' sum fits as the contract says, and so does its product.
 use mathlib.Core.Path.{◌≡◌, refl, ◌∙◌}
 use native.Mathlib.Omega.{arith}
-use borrow.Author.Rules.{rules}
 use lib.IntN.{ℤ, pos, ◌+ℤ◌}
 use lib.ListN.{get_or}
 use mir.Syntax.{w32}

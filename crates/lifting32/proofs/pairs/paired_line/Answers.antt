@@ -1,9 +1,6 @@
 use mathlib.Core.Path.{◌≡◌, refl, sym}
-use Prim.Native.Nat.{◌-◌, ◌≤◌}
 use native.Mathlib.Omega.{arith}
-use Rattle.base.specs.Fill.{fill}
 use Rattle.base.proofs.FillLaws.{fill_none, fill_more, get_d-fill-start}
-use Rattle.lifting32.specs.Pairs.{pair_index}
 use Rattle.lifting32.proofs.pairs.paired_line.Goals as goal
 
 pub loop-j-init : goal.loop-j-init

@@ -1,9 +1,7 @@
 -- `lifting32::pairs::paired_line` meets its contract: after j turns j indices are stored.
-use mathlib.Core.Path.{◌≡◌, refl, sym}
+use mathlib.Core.Path.{◌≡◌}
 use Prim.Native.Nat.{◌-◌, ◌≤◌}
-use native.Mathlib.Omega.{arith}
 use Rattle.base.specs.Fill.{fill}
-use Rattle.base.proofs.FillLaws.{fill_none, fill_more, get_d-fill-start}
 use Rattle.lifting32.specs.Pairs.{pair_index}
 use Rattle.lifting32.proofs.pairs.paired_line.Given as goal
 

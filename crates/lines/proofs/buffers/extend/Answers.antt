@@ -1,10 +1,9 @@
 use mathlib.Core.Path.{◌≡◌, refl, sym, ◌∙◌}
-use Prim.Native.Nat.{◌+◌, ◌-◌, ◌≤◌}
+use Prim.Native.Nat.{◌+◌}
 use native.Mathlib.Omega.{arith}
 use lib.IntN.{pos}
-use lib.ListN.{length, get_or, length-set}
+use lib.ListN.{get_or, length-set}
 use mir.Syntax.{w32}
-use mir.Val.{to_z}
 use Rattle.base.proofs.RangeLaws.{back}
 use Rattle.lines.proofs.BuffersLaws.{ends, ends-none, ends_more, ends-clamped, ends-kept}
 use Rattle.lines.proofs.buffers.extend.Goals as goal

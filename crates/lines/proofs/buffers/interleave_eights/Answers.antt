@@ -1,11 +1,11 @@
 use mathlib.Core.Path.{◌≡◌, refl, sym, ◌∙◌}
-use Prim.Native.Nat.{ℕ, ◌+◌, ◌-◌, ◌*◌, ◌≤◌, ◌<◌}
+use Prim.Native.Nat.{ℕ, ◌+◌, ◌*◌, ◌<◌}
 use native.Mathlib.Nat.{zero-add}
 use native.Mathlib.Omega.{arith}
 use lib.IntN.{pos}
-use lib.ListN.{length, get_or}
+use lib.ListN.{get_or}
 use Rattle.base.proofs.FillLaws.{fill_none, fill-append, fill-same, get_d-fill-start}
-use Rattle.lines.specs.Buffers.{row_number, with_row}
+use Rattle.lines.specs.Buffers.{row_number}
 use Rattle.lines.proofs.buffers.interleave_eights.Goals as goal
 use Rattle.lines.proofs.buffers.interleave_eights.Goals.{After-interleave_part}
 

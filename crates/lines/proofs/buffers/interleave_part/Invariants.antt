@@ -1,11 +1,7 @@
 -- `lines::buffers::interleave_part` meets its contract: after x turns the plane is the one that came, with x numbers of the row stored.
-use mathlib.Core.Path.{◌≡◌, refl, sym, ◌∙◌}
+use mathlib.Core.Path.{◌≡◌}
 use Prim.Native.Nat.{◌-◌, ◌≤◌}
-use native.Mathlib.Omega.{arith}
-use lib.ListN.{length, length-set}
-use mir.Syntax.{w32}
-use Rattle.base.proofs.FillLaws.{fill_none, fill_more}
-use Rattle.base.proofs.RangeLaws.{back}
+use lib.ListN.{length}
 use Rattle.lines.specs.Buffers.{with_row_part}
 use Rattle.lines.proofs.buffers.interleave_part.Given as goal
 

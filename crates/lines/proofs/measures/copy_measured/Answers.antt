@@ -1,12 +1,11 @@
 use mathlib.Core.Path.{◌≡◌, refl, sym, ap, ◌∙◌}
-use Prim.Native.Nat.{ℕ, ◌+◌, ◌≤◌, ◌<◌, ◌-◌}
+use Prim.Native.Nat.{◌+◌}
 use native.Mathlib.Omega.{arith}
 use borrow.Author.Count.{below_more}
 use lib.IntN.{pos}
-use lib.ListN.{length, get_or, length-set}
+use lib.ListN.{get_or, length-set}
 use lib.Signed.{mag}
 use mir.Syntax.{w32}
-use Rattle.base.specs.Fill.{fill}
 use Rattle.base.proofs.FillLaws.{fill_none, fill_more}
 use Rattle.base.proofs.Integers.{size-mag}
 use Rattle.base.proofs.RangeLaws.{back}

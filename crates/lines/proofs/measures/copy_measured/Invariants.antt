@@ -1,17 +1,11 @@
 -- `lines::measures::copy_measured` meets its contract: after x turns the plane is the one that came, with x entries of the source stored, and
 -- none of them is larger than the number that is kept.
-use mathlib.Core.Path.{◌≡◌, refl, sym, ap, ◌∙◌}
+use mathlib.Core.Path.{◌≡◌}
 use Prim.Native.Nat.{ℕ, ◌+◌, ◌≤◌, ◌<◌, ◌-◌}
-use native.Mathlib.Omega.{arith}
-use borrow.Author.Count.{below_more}
 use lib.IntN.{pos}
-use lib.ListN.{length, get_or, length-set}
+use lib.ListN.{length, get_or}
 use lib.Signed.{mag}
-use mir.Syntax.{w32}
 use Rattle.base.specs.Fill.{fill}
-use Rattle.base.proofs.FillLaws.{fill_none, fill_more}
-use Rattle.base.proofs.Integers.{size-mag}
-use Rattle.base.proofs.RangeLaws.{back}
 use Rattle.lines.proofs.measures.copy_measured.Given as goal
 
 abbrev pub invariant-loop-x : goal.invariant-loop-x

@@ -1,12 +1,11 @@
 use mathlib.Core.Path.{◌≡◌, refl, sym, ◌∙◌}
-use Prim.Native.Nat.{ℕ, ◌+◌, ◌-◌, ◌^◌, ◌≤◌, ◌<◌}
+use Prim.Native.Nat.{◌+◌, ◌^◌, ◌≤◌}
 use native.Mathlib.Omega.{arith}
 use borrow.Author.Count.{below_more}
-use lib.IntN.{ℤ, pos, nat_abs, ◌+ℤ◌, ◌*ℤ◌}
+use lib.IntN.{ℤ, pos, nat_abs, ◌*ℤ◌}
 use lib.ListN.{get_or}
 use mir.Syntax.{w32, w64}
 use mir.Val.{to_z, of_z}
-use Rattle.base.specs.Fill.{fill}
 use Rattle.base.proofs.FillLaws.{fill_none, fill_more, get_d-fill-out}
 use Rattle.base.proofs.RangeLaws.{back}
 use Rattle.lines.proofs.SumsLaws.{product_small, product-fits, sum_fits, below-added}
@@ -52,12 +51,11 @@ add-requires c =
     rw (old (goal.at.add-requires c).After-mul, product (goal.at.add-requires c).After-mul) (sum_fits (sum (goal.at.add-requires c).At-loop-x) (factor (goal.at.add-requires c).At-loop-x *ℤ number (goal.at.add-requires c).At-loop-x) (c.requires.tap_bound.1 c.loop-x.x (omega arith)) (small (goal.at.add-requires c).After-widen))
 
 pub loop-x-preserved : goal.loop-x-preserved
-loop-x-preserved c =
-    (
-      omega arith,
-      rw (back w64 c.add.result c.add.type_inv, c.add.ensures, old (goal.at.loop-x-preserved c).After-mul, product (goal.at.loop-x-preserved c).After-mul, c.loop-x.invariant.1) (fill_more _ 0 _ _ _ (omega arith)),
-      below_more _ _ c.loop-x.invariant.2 (small (goal.at.loop-x-preserved c).After-widen),
-    )
+loop-x-preserved c = (
+  omega arith,
+  rw (back w64 c.add.result c.add.type_inv, c.add.ensures, old (goal.at.loop-x-preserved c).After-mul, product (goal.at.loop-x-preserved c).After-mul, c.loop-x.invariant.1) (fill_more _ 0 _ _ _ (omega arith)),
+  below_more _ _ c.loop-x.invariant.2 (small (goal.at.loop-x-preserved c).After-widen),
+)
 
 pub returns : goal.returns
 returns c =

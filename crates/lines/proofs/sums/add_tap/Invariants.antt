@@ -1,23 +1,16 @@
 -- `lines::sums::add_tap` meets its contract: after x turns the first x sums have the tap added, and none of the x products is above 2^44.
-use mathlib.Core.Path.{◌≡◌, refl, sym, ◌∙◌}
+use mathlib.Core.Path.{◌≡◌}
 use Prim.Native.Nat.{ℕ, ◌+◌, ◌-◌, ◌^◌, ◌≤◌, ◌<◌}
-use native.Mathlib.Omega.{arith}
-use borrow.Author.Count.{below_more}
-use lib.IntN.{ℤ, pos, nat_abs, ◌+ℤ◌, ◌*ℤ◌}
+use lib.IntN.{pos, nat_abs, ◌+ℤ◌, ◌*ℤ◌}
 use lib.ListN.{get_or}
-use mir.Syntax.{w32, w64}
-use mir.Val.{to_z, of_z}
 use Rattle.base.specs.Fill.{fill}
-use Rattle.base.proofs.FillLaws.{fill_none, fill_more, get_d-fill-out}
-use Rattle.base.proofs.RangeLaws.{back}
-use Rattle.lines.proofs.SumsLaws.{product_small, product-fits, sum_fits, below-added}
 use Rattle.lines.proofs.sums.add_tap.Given as goal
 
 abbrev pub invariant-loop-x : goal.invariant-loop-x
 invariant-loop-x l =
     (l.x ≤ l.width)
-    × (l.sums ≡ fill l.initial.sums 0 l.x (λ k. get_or l.initial.sums k (pos 0) +ℤ to_z w64 l.tap *ℤ get_or l.source (l.start + k) (pos 0)))
-    × ((k : ℕ) → k < l.x → nat_abs (to_z w64 l.tap *ℤ get_or l.source (l.start + k) (pos 0)) ≤ 2 ^ 44)
+    × (l.sums ≡ fill l.initial.sums 0 l.x (λ k. get_or l.initial.sums k (pos 0) +ℤ l.tap *ℤ get_or l.source (l.start + k) (pos 0)))
+    × ((k : ℕ) → k < l.x → nat_abs (l.tap *ℤ get_or l.source (l.start + k) (pos 0)) ≤ 2 ^ 44)
 
 abbrev pub decreases-loop-x : goal.decreases-loop-x
 decreases-loop-x l = l.width - l.x

@@ -1,27 +1,18 @@
 use mathlib.Core.Path.{◌≡◌, refl, sym, ◌∙◌}
-use mathlib.Core.Bool.{Bool, true}
-use mathlib.Core.List.{List}
-use Prim.Native.Nat.{ℕ, ◌+◌, ◌-◌, ◌≤◌}
+use Prim.Native.Nat.{ℕ, ◌+◌}
 use native.Mathlib.Omega.{arith}
-use borrow.Author.Tests.{not-true, not-false}
 use lib.IntN.{ℤ, pos}
-use lib.ListN.{length, get_or, length-set}
+use lib.ListN.{get_or, length-set}
 use mir.Syntax.{w32, w64}
 use mir.Val.{to_z, of_z}
-use Rattle.base.specs.Every.{all_below}
-use Rattle.base.specs.Fill.{fill}
 use Rattle.base.specs.Range.{fits32}
 use Rattle.base.proofs.EveryLaws.{all_none, all_more, all-not}
 use Rattle.base.proofs.Booleans.{and-true}
 use Rattle.base.proofs.FillLaws.{fill_none, fill_more, get_d-fill-out}
 use Rattle.base.proofs.RangeLaws.{back}
-use Rattle.lines.specs.Sums.{changed}
+use Rattle.lines.specs.Sums.{number_at, new_at}
 use Rattle.lines.proofs.sums.lift_line.Goals as goal
 use Rattle.lines.proofs.sums.lift_line.Goals.{After-fits_i32, After-lifted-new, At-loop-x}
-
--- the new number at a start of a line
-abbrev new : List ℤ → ℕ → List ℤ → ℕ → Bool → ℕ → ℤ
-new line start sums scale adds x = changed adds scale (get_or line (start + x) (pos 0)) (get_or sums x (pos 0))
 
 pub loop-x-init : goal.loop-x-init
 loop-x-init c = (omega arith, refl, sym (fill_none _ _ _), all_none _)
@@ -32,7 +23,7 @@ lifted-new-requires c =
 
 -- the numbers that the line is to have, and that the loop makes them
 abbrev wanted : At-loop-x → ℕ → ℤ
-wanted c = new c.args.line.now c.args.start c.args.sums.now c.args.scale c.args.adds
+wanted c = new_at c.args.adds c.args.scale c.args.line.now c.args.start (number_at c.args.sums.now)
 
 made : (c : After-lifted-new) → to_z w64 (of_z w64 c.lifted-new.result) ≡ wanted c.before.before.before.before c.loop-x.x
 made c =
@@ -51,19 +42,18 @@ shape_of-line-then-not-fits_i32 c = c.loop-x.invariant.1
 
 pub returns-then-not-fits_i32 : goal.returns-then-not-fits_i32
 returns-then-not-fits_i32 c =
-    record { told = sym (all-not (λ k. fits32 (wanted (goal.at.returns-then-not-fits_i32 c).At-loop-x k)) c.args.width c.loop-x.x (omega arith) (sym (tested (goal.at.returns-then-not-fits_i32 c).After-fits_i32) ∙ not-true _ c.if-not-fits_i32.true)); done = λ e. absurd (let no : ◌≡◌ {A = ℕ} 0 1 = cc e in omega arith) }
+    record { told = sym (all-not (λ k. fits32 (wanted (goal.at.returns-then-not-fits_i32 c).At-loop-x k)) c.args.width c.loop-x.x (omega arith) (sym (tested (goal.at.returns-then-not-fits_i32 c).After-fits_i32) ∙ c.if-not-fits_i32.true)); done = λ e. absurd (let no : ◌≡◌ {A = ℕ} 0 1 = cc e in omega arith) }
 
 pub narrow-requires : goal.narrow-requires
-narrow-requires c = sym c.fits_i32.ensures ∙ not-false _ c.if-not-fits_i32.false
+narrow-requires c = sym c.fits_i32.ensures ∙ c.if-not-fits_i32.false
 
 pub loop-x-preserved : goal.loop-x-preserved
-loop-x-preserved c =
-    (
-      omega arith,
-      simp length-set c.loop-x.invariant.1,
-      rw (back w32 c.narrow.result c.narrow.type_inv, c.narrow.ensures, made (goal.at.loop-x-preserved c).After-lifted-new, c.loop-x.invariant.2) (fill_more _ _ (wanted (goal.at.loop-x-preserved c).At-loop-x) _ _ refl),
-      all_more _ c.loop-x.x ∙ and-true _ _ c.loop-x.invariant.3 (sym (tested (goal.at.loop-x-preserved c).After-fits_i32) ∙ not-false _ c.if-not-fits_i32.false),
-    )
+loop-x-preserved c = (
+  omega arith,
+  simp length-set c.loop-x.invariant.1,
+  rw (back w32 c.narrow.result c.narrow.type_inv, c.narrow.ensures, made (goal.at.loop-x-preserved c).After-lifted-new, c.loop-x.invariant.2) (fill_more _ _ (wanted (goal.at.loop-x-preserved c).At-loop-x) _ _ refl),
+  all_more _ c.loop-x.x ∙ and-true _ _ c.loop-x.invariant.3 (sym (tested (goal.at.loop-x-preserved c).After-fits_i32) ∙ c.if-not-fits_i32.false),
+)
 
 pub shape_of-line : goal.shape_of-line
 shape_of-line c = c.loop-x.invariant.1

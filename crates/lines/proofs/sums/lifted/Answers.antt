@@ -1,7 +1,6 @@
 -- `lines::sums::lifted` meets its contract: a number of 32 bits and a sum of 48 have their sum and their difference in 64.
 use mathlib.Core.Path.{◌≡◌, refl, ◌∙◌}
 use Prim.Native.Nat.{◌^◌}
-use borrow.Author.Rules.{rules}
 use mir.Syntax.{w32, w64}
 use mir.Val.{to_z, of_z}
 use Rattle.base.specs.Floor.{floor_div}

@@ -1,23 +1,17 @@
 -- `lines::sums::sum_taps` meets its contract: after t turns each sum is the starting number with t taps added, and at most (t + 1) · 2^44 in size.
-use mathlib.Core.Path.{◌≡◌, refl, ◌∙◌}
+use mathlib.Core.Path.{◌≡◌}
 use Prim.Native.Nat.{ℕ, ◌+◌, ◌-◌, ◌*◌, ◌^◌, ◌≤◌, ◌<◌}
-use native.Mathlib.Omega.{arith}
-use lib.IntN.{ℤ, pos, ◌+ℤ◌, ◌*ℤ◌}
+use lib.IntN.{pos, ◌+ℤ◌}
 use lib.ListN.{length, get_or}
-use mir.Syntax.{w64}
-use mir.Val.{to_z, of_z}
-use Rattle.base.proofs.FillLaws.{length-fill, get_d-fill-start}
-use Rattle.base.proofs.RangeLaws.{back}
 use Rattle.lines.specs.Buffers.{Below}
 use Rattle.lines.specs.Sums.{sum_below, tap_at}
-use Rattle.lines.proofs.SumsLaws.{sum-none, sum_more}
 use Rattle.lines.proofs.sums.sum_taps.Given as goal
 
 abbrev pub invariant-loop-t : goal.invariant-loop-t
 invariant-loop-t l =
     (l.t ≤ l.count)
     × (l.width ≤ length l.sums)
-    × ((x : ℕ) → x < l.width → get_or l.sums x (pos 0) ≡ to_z w64 l.round +ℤ sum_below (tap_at l.taps l.starts l.source x) l.t)
+    × ((x : ℕ) → x < l.width → get_or l.sums x (pos 0) ≡ l.round +ℤ sum_below (tap_at l.taps l.starts l.source x) l.t)
     × Below l.sums l.width (2 ^ 44 * (l.t + 1))
 
 abbrev pub decreases-loop-t : goal.decreases-loop-t
