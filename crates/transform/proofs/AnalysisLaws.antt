@@ -24,7 +24,6 @@ use Rattle.transform.specs.Analysis.{undo_steps, analysis_passes, low_band, sepa
 use Rattle.component.specs.Sizes.{size_at}
 use Rattle.component.proofs.SizesLaws.{size_at-least}
 use Rattle.filters.specs.Pictures.{Agree}
-use Rattle.lifting.proofs.LayoutLaws.{half_row}
 
 -- halving undoes doubling
 halve-double : (v : ℤ) → floor_div (pos 2 *ℤ v +ℤ pos 1) 2 ≡ v

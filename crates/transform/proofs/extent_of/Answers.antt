@@ -1,6 +1,5 @@
 -- `transform::extent_of` meets its contract: each field is what a callee says of it.
 use native.Mathlib.Omega.{arith}
-use borrow.Author.Rules.{rules}
 use Rattle.component.proofs.ChecksLaws.{width_most, height_most, depth_most}
 use Rattle.transform.specs.Geometry.{extent_of}
 use Rattle.transform.proofs.extent_of.Goals as goal

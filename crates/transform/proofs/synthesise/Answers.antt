@@ -1,7 +1,6 @@
 -- `transform::synthesise` meets its contract: refused, overflowed or accepted, each way ends as the job's definition says.
 use mathlib.Core.Path.{◌≡◌, sym, ◌∙◌}
 use mathlib.Core.Bool.{true}
-use borrow.Author.Rules.{rules}
 use borrow.Author.Tests.{not-false}
 use Rattle.base.proofs.ListsLaws.{zeros-length}
 use Rattle.component.specs.Checks.{sizes_in_range, depth_in_range, wavelet_in_range, refusal_of, lengths_of}
@@ -40,7 +39,7 @@ unfolding outcome overflowed
 returns-then-level-ne0 c =
     let told = c.synthesise_picture-level.ensures.told in
     let some = c.if-level-ne0.true in
-    rw (c.zero.ensures, c.zero-then-level-ne0.ensures, zeros-length c.synthesise_picture-level.new.samples.1.0 c.args.work.now c.synthesise_picture-level.auto.samples.1.0, zeros-length c.synthesise_picture-level.new.samples.1.1.0 c.args.samples.now c.synthesise_picture-level.auto.samples.1.1.0, told)
+    rw (c.zero.ensures, c.zero-then-level-ne0.ensures, zeros-length c.synthesise_picture-level.new.work c.args.work.now c.synthesise_picture-level.auto.work, zeros-length c.synthesise_picture-level.new.samples c.args.samples.now c.synthesise_picture-level.auto.samples, told)
     (sym (job-overflowed c.args.p _ _ _ (none (goal.at.returns-then-level-ne0 c).Else-status-ne-ACCEPTED) (λ e. some (told ∙ e))))
 
 pub returns : goal.returns

@@ -3,7 +3,6 @@ use mathlib.Core.Path.{◌≡◌, refl, sym, ◌∙◌, subst}
 use Prim.Native.Nat.{◌*◌, ◌≤◌}
 use native.Mathlib.Nat.{mul_comm}
 use native.Mathlib.Omega.{arith}
-use borrow.Author.Rules.{rules}
 use lib.ListN.{length}
 use Rattle.component.proofs.ChecksLaws.{wavelet-most, width-least}
 use Rattle.filters.specs.Filters.{filter_of}
@@ -24,11 +23,14 @@ pub synthesise_levels-requires : goal.synthesise_levels-requires
 unfolding extent_of
 synthesise_levels-requires c =
     let p = c.args.p in
-    let back = sym c.extent_of-extent.ensures in record { planes = (
+    let back = sym c.extent_of-extent.ensures in record {
+      planes = (
         subst (λ (e : Extent). Geometry e (length c.args.work.now)) back (geometry-of p c.requires.p_value.0 c.requires.p_value.1 _ c.requires.coefficients_len.1),
         c.requires.coefficients_len.0 ∙ sym c.requires.coefficients_len.1,
         subst (λ (e : Extent). e.height * e.width ≤ length c.args.samples.now) back (omega (arith, c.requires.coefficients_len.2, mul_comm p.height p.width)),
-      ); well_formed = (c.filter_of-filter.ensures.1, omega arith) }
+      );
+      well_formed = (c.filter_of-filter.ensures.1, omega arith);
+    }
 
 pub returns : goal.returns
 unfolding bad_level picture_from extent_of
@@ -37,14 +39,17 @@ returns c =
     let coefficients = c.args.coefficients.now in
     let is = c.extent_of-extent.ensures in
     let same = c.filter_of-filter.ensures.0 in
-    record { told = subst
+    record {
+      told = subst
           (λ (e : Extent). c.synthesise_levels.result ≡ first_bad_level (filter_of p.wavelet) e.low_rows e.low_columns (picture_of e.padded_width coefficients) e.depth)
-          is (rw same at c.synthesise_levels.ensures.told); done = λ none.
+          is (rw same at c.synthesise_levels.ensures.told);
+      done = λ none.
           let stands = c.synthesise_levels.ensures.done none in (
-            sym (raster-is p.height p.width (picture_from p coefficients) c.synthesise_levels.new.samples.0 (width-least p c.requires.p_value.0) (c.synthesise_levels.auto.samples.0 ∙ c.requires.coefficients_len.2 ∙ mul_comm p.width p.height)
+            sym (raster-is p.height p.width (picture_from p coefficients) c.synthesise_levels.new.samples (width-least p c.requires.p_value.0) (c.synthesise_levels.auto.samples ∙ c.requires.coefficients_len.2 ∙ mul_comm p.width p.height)
                 (λ row x r i. sym
                 (subst
-                (λ (e : Extent). Agree e.height e.width (picture_of e.width c.synthesise_levels.new.samples.0) (synthesis (filter_of p.wavelet) e.low_rows e.low_columns (picture_of e.padded_width coefficients) e.depth))
+                (λ (e : Extent). Agree e.height e.width (picture_of e.width c.synthesise_levels.new.samples) (synthesis (filter_of p.wavelet) e.low_rows e.low_columns (picture_of e.padded_width coefficients) e.depth))
                 is (rw same at (stands.in_samples refl)) row x r i))),
             stands.cleared refl,
-          ) }
+          );
+    }

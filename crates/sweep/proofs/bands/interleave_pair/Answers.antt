@@ -2,7 +2,6 @@
 use mathlib.Core.Path.{◌∙◌}
 use Prim.Native.Nat.{ℕ, ◌+◌, ◌*◌, ◌≤◌, ◌<◌}
 use native.Mathlib.Omega.{arith}
-use borrow.Author.Rules.{rules}
 use lib.ListN.{length}
 use Rattle.base.proofs.Grids.{row-end}
 use Rattle.sweep.proofs.BandsLaws.{pair-within}
@@ -11,7 +10,6 @@ use Rattle.sweep.proofs.bands.interleave_pair.Goals.{Start}
 
 -- the rows that are stored to, and those that are read, lie within their planes
 module _ (s : Start) where
-
   abbrev r : ℕ
   r = s.args.r
 
@@ -91,8 +89,11 @@ pub returns : goal.returns
 returns c =
     let stored = rw c.copy_measured-upper.ensures.copied at c.copy_measured-lower.ensures.copied in
     let joined = c.join.ensures in
-    let all = c.join-2.ensures in record { stored = stored; measured = rw stored (pair-within c.args.coefficients.now (pw (goal.at.returns c).Start) (bands (goal.at.returns c).Start) (columns (goal.at.returns c).Start) (stride (goal.at.returns c).Start) c.requires.frame_fits.0.apart
+    let all = c.join-2.ensures in record {
+      stored = stored;
+      measured = rw stored (pair-within c.args.coefficients.now (pw (goal.at.returns c).Start) (bands (goal.at.returns c).Start) (columns (goal.at.returns c).Start) (stride (goal.at.returns c).Start) c.requires.frame_fits.0.apart
           c.args.work.now (r (goal.at.returns c).Start) (odd-end (goal.at.returns c).Start) _
           (λ x h. omega (arith, c.measure-low.ensures x h))
           (λ x h. omega (arith, c.copy_measured-upper.ensures.measured x h))
-          (λ x h. omega (arith, c.copy_measured-lower.ensures.measured x h))) }
+          (λ x h. omega (arith, c.copy_measured-lower.ensures.measured x h)));
+    }

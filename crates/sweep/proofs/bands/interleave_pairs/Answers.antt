@@ -1,16 +1,14 @@
 use mathlib.Core.Path.{◌≡◌, refl, ◌∙◌}
 use mathlib.Core.List.{List}
-use Prim.Native.Nat.{ℕ, suc, ◌-◌, ◌≤◌, ◌<◌}
+use Prim.Native.Nat.{ℕ, suc, ◌≤◌, ◌<◌}
 use native.Mathlib.Numerals.{add-one}
 use native.Mathlib.Decide.{dec_lt}
 use native.Mathlib.Omega.{arith}
-use borrow.Author.Rules.{rules}
 use lib.IntN.{ℤ}
-use lib.ListN.{length}
 use Rattle.lifting.specs.declared.frame.Frame.{Frame}
+use Rattle.lifting.specs.Layout.{FrameFits}
 use Rattle.lifting.proofs.LayoutLaws.{frame-fits-same}
-use Rattle.sweep.specs.Bands.{PairWithin, band_rows}
-use Rattle.sweep.specs.Pairs.{FramePut}
+use Rattle.sweep.specs.Bands.{PairWithin}
 use Rattle.sweep.proofs.BandsLaws.{bands-put, sizes-kept}
 use Rattle.sweep.proofs.PairsLaws.{pairs-none, pairs-joined}
 use Rattle.sweep.proofs.bands.interleave_pairs.Goals as goal
@@ -33,7 +31,7 @@ pub loop-r-preserved : goal.loop-r-preserved
 loop-r-preserved c =
     let r = c.loop-r.r in
     let inside : r < c.args.frame.band_rows = omega (arith, c.loop-r-test.true, c.requires.frame_fits.2) in
-    let placed = frame-fits-same _ _ _ c.requires.frame_fits.0 c.loop-r.invariant.2 in
+    let placed : FrameFits c.args.frame c.loop-r.work = frame-fits-same _ _ _ c.requires.frame_fits.0 c.loop-r.invariant.2 in
     let work' = c.interleave_pair-here.new.work in
     rw (add-one r) (
       omega (arith, c.loop-r.invariant.0),

@@ -1,19 +1,9 @@
 -- `sweep::bands::interleave_pairs` meets its contract: after some turns the bands of as many pairs are interleaved, and their numbers measured.
-use mathlib.Core.Path.{◌≡◌, refl, ◌∙◌}
-use mathlib.Core.List.{List}
+use mathlib.Core.Path.{◌≡◌}
 use Prim.Native.Nat.{ℕ, suc, ◌-◌, ◌≤◌, ◌<◌}
-use native.Mathlib.Numerals.{add-one}
-use native.Mathlib.Decide.{dec_lt}
-use native.Mathlib.Omega.{arith}
-use borrow.Author.Rules.{rules}
-use lib.IntN.{ℤ}
 use lib.ListN.{length}
-use Rattle.lifting.specs.declared.frame.Frame.{Frame}
-use Rattle.lifting.proofs.LayoutLaws.{frame-fits-same}
 use Rattle.sweep.specs.Bands.{PairWithin, band_rows}
 use Rattle.sweep.specs.Pairs.{FramePut}
-use Rattle.sweep.proofs.BandsLaws.{bands-put, sizes-kept}
-use Rattle.sweep.proofs.PairsLaws.{pairs-none, pairs-joined}
 use Rattle.sweep.proofs.bands.interleave_pairs.Given as goal
 
 abbrev pub invariant-loop-r : goal.invariant-loop-r

@@ -1,9 +1,6 @@
 use mathlib.Core.Path.{◌≡◌}
-use Prim.Native.Nat.{ℕ, ◌+◌, ◌-◌, ◌≤◌, ◌<◌}
 use native.Mathlib.Decide.{dec_lt}
 use native.Mathlib.Omega.{arith}
-use borrow.Author.Rules.{rules}
-use Rattle.sweep.specs.Stages.{step_at}
 use Rattle.sweep.proofs.gaps.gap_of.Goals as goal
 
 pub loop-i-init : goal.loop-i-init
@@ -11,9 +8,6 @@ loop-i-init c = (omega arith, omega arith, λ j h. absurd (omega arith))
 
 pub bounds-filter-i : goal.bounds-filter-i
 bounds-filter-i c = omega (arith, c.loop-i-test.true, c.requires.few)
-
-pub offset_bounds-filter-i : goal.offset_bounds-filter-i
-offset_bounds-filter-i c = omega (arith, element-copy-out-step (goal.at.offset_bounds-filter-i c).In-loop-i)
 
 pub step_gap-requires : goal.step_gap-requires
 step_gap-requires c = c.requires.each c.loop-i.i _ c.loop-i-test.true

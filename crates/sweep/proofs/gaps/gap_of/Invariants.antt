@@ -1,9 +1,5 @@
 -- `sweep::gaps::gap_of` meets its contract: after i turns the gap is enough for the first i steps.
-use mathlib.Core.Path.{◌≡◌}
 use Prim.Native.Nat.{ℕ, ◌+◌, ◌-◌, ◌≤◌, ◌<◌}
-use native.Mathlib.Decide.{dec_lt}
-use native.Mathlib.Omega.{arith}
-use borrow.Author.Rules.{rules}
 use Rattle.sweep.specs.Stages.{step_at}
 use Rattle.sweep.proofs.gaps.gap_of.Given as goal
 

@@ -1,16 +1,14 @@
 use mathlib.Core.Path.{◌≡◌, refl, sym, ◌∙◌}
 use mathlib.Core.Bool.{true, false≢true}
-use Prim.Native.Nat.{suc, ◌-◌, ◌≤◌, ◌<◌}
+use Prim.Native.Nat.{suc, ◌<◌}
 use native.Mathlib.Numerals.{add-one}
 use native.Mathlib.Decide.{dec_lt}
 use native.Mathlib.Omega.{arith}
-use borrow.Author.Tests.{not-true, not-false}
-use lib.ListN.{length}
 use Rattle.lifting.specs.Layout.{FrameFits}
 use Rattle.lifting.proofs.LayoutLaws.{frame-fits-same}
-use Rattle.sweep.specs.Pairs.{EachPair, FramePut}
-use Rattle.sweep.specs.Rows.{row_made, pair_fits}
-use Rattle.sweep.specs.LastStage.{rows_left, SamplesPut}
+use Rattle.sweep.specs.Pairs.{FramePut}
+use Rattle.sweep.specs.Rows.{pair_fits}
+use Rattle.sweep.specs.LastStage.{rows_left}
 use Rattle.sweep.specs.Levels.{RoomFor}
 use Rattle.sweep.proofs.LastStageLaws.{pair-fits-kept, rows-put, samples-put}
 use Rattle.sweep.proofs.PairsLaws.{pairs-none, pairs-joined}
@@ -23,7 +21,6 @@ loop-k-init c =
 
 -- Pair k of the plane as it is at the head of a turn.
 module _ (c : In-loop-k) where
-
   abbrev put : FramePut c.args.level.frame c.args.from c.loop-k.k (rows_left c.args.level c.args.filter c.args.work.now) c.args.work.now c.loop-k.work
   put = c.loop-k.invariant.5
 
@@ -48,14 +45,18 @@ shape_of-work-then-not-filter_rows c =
 
 pub shape_of-samples-then-not-filter_rows : goal.shape_of-samples-then-not-filter_rows
 shape_of-samples-then-not-filter_rows c =
-    c.filter_rows.auto.samples.0 ∙ c.loop-k.invariant.3
+    c.filter_rows.auto.samples ∙ c.loop-k.invariant.3
 
 pub returns-then-not-filter_rows : goal.returns-then-not-filter_rows
 returns-then-not-filter_rows c =
-    record { told = (
+    record {
+      told = (
         λ wrong. absurd (false≢true wrong),
-        λ same all. false≢true (sym (not-true _ c.if-not-filter_rows.true) ∙ c.filter_rows.ensures.told ∙ kept (goal.at.returns-then-not-filter_rows c).In-loop-k ∙ all c.loop-k.k c.loop-k.invariant.0 c.loop-k-test.true),
-      ); done = λ wrong. absurd (false≢true wrong); finished = λ wrong. absurd (false≢true wrong) }
+        λ same all. false≢true (sym c.if-not-filter_rows.true ∙ c.filter_rows.ensures.told ∙ kept (goal.at.returns-then-not-filter_rows c).In-loop-k ∙ all c.loop-k.k c.loop-k.invariant.0 c.loop-k-test.true),
+      );
+      done = λ wrong. absurd (false≢true wrong);
+      finished = λ wrong. absurd (false≢true wrong);
+    }
 
 pub overflow_add-k : goal.overflow_add-k
 overflow_add-k c =
@@ -66,12 +67,12 @@ loop-k-smaller c = omega (arith, c.loop-k-test.true)
 
 pub loop-k-preserved : goal.loop-k-preserved
 loop-k-preserved c =
-    let went : c.filter_rows.result ≡ true = not-false _ c.if-not-filter_rows.false in
+    let went : c.filter_rows.result ≡ true = c.if-not-filter_rows.false in
     rw (add-one c.loop-k.k) (
       omega (arith, c.loop-k.invariant.0),
       omega (arith, c.loop-k-test.true),
       c.filter_rows.auto.work ∙ c.loop-k.invariant.2,
-      c.filter_rows.auto.samples.0 ∙ c.loop-k.invariant.3,
+      c.filter_rows.auto.samples ∙ c.loop-k.invariant.3,
       λ q from to.
           elim (dec_lt q c.loop-k.k) [
             | yes before ↦ c.loop-k.invariant.4 q from before

@@ -1,20 +1,11 @@
 -- `sweep::level::filter_pairs` meets its contract: after some turns the rows of as many pairs are filtered, each as the plane that came has it.
-use mathlib.Core.Path.{◌≡◌, refl, sym, ◌∙◌}
-use mathlib.Core.Bool.{true, false≢true}
-use Prim.Native.Nat.{suc, ◌-◌, ◌≤◌, ◌<◌}
-use native.Mathlib.Numerals.{add-one}
-use native.Mathlib.Decide.{dec_lt}
-use native.Mathlib.Omega.{arith}
-use borrow.Author.Tests.{not-true, not-false}
+use mathlib.Core.Path.{◌≡◌}
+use mathlib.Core.Bool.{true}
+use Prim.Native.Nat.{◌-◌, ◌≤◌}
 use lib.ListN.{length}
-use Rattle.lifting.specs.Layout.{FrameFits}
-use Rattle.lifting.proofs.LayoutLaws.{frame-fits-same}
 use Rattle.sweep.specs.Pairs.{EachPair, FramePut}
 use Rattle.sweep.specs.Rows.{row_made, pair_fits}
 use Rattle.sweep.specs.LastStage.{rows_left, SamplesPut}
-use Rattle.sweep.specs.Levels.{RoomFor}
-use Rattle.sweep.proofs.LastStageLaws.{pair-fits-kept, rows-put, samples-put}
-use Rattle.sweep.proofs.PairsLaws.{pairs-none, pairs-joined}
 use Rattle.sweep.proofs.level.filter_pairs.Given as goal
 
 abbrev pub invariant-loop-k : goal.invariant-loop-k

@@ -1,6 +1,5 @@
 -- `sweep::level::filter_rows` meets its contract: both calls do what it says.
 use mathlib.Core.Path.{refl}
-use borrow.Author.Rules.{rules}
 use Rattle.sweep.proofs.level.filter_rows.Goals as goal
 
 pub finish_pair-requires : goal.finish_pair-requires
@@ -11,9 +10,9 @@ finish_pair-requires c =
 pub returns-then-level : goal.returns-then-level
 returns-then-level c =
     let called = c.finish_pair.ensures in
-    rw c.if-level.true (record { told = called.0; done = λ yes. called.1.1 yes; finished = λ yes. called.1.0 yes })
+    rw c.if-level.true (record { told = called.told; done = called.cleared; finished = called.done })
 
 pub returns : goal.returns
 returns c =
     let called = c.filter_pair.ensures in
-    rw c.if-level.false (record { told = called.0; done = λ yes. called.1 yes; finished = λ yes. refl })
+    rw c.if-level.false (record { told = called.told; done = called.done; finished = λ yes. refl })

@@ -1,11 +1,9 @@
 use mathlib.Core.Path.{◌≡◌, refl, ◌∙◌}
 use mathlib.Core.Bool.{true, false≢true}
 use mathlib.Core.List.{List}
-use Prim.Native.Nat.{ℕ, suc, ◌+◌, ◌-◌, ◌≤◌, ◌<◌}
+use Prim.Native.Nat.{ℕ, suc, ◌+◌, ◌≤◌, ◌<◌}
 use native.Mathlib.Nat.{mul-le-mul}
 use native.Mathlib.Omega.{arith}
-use borrow.Author.Rules.{rules}
-use borrow.Author.Tests.{not-true, not-false}
 use lib.IntN.{ℤ}
 use lib.ListN.{length}
 use Rattle.lifting.specs.Layout.{FrameFits}
@@ -18,7 +16,7 @@ use Rattle.sweep.specs.Turns.{Bounded, TurnFits}
 use Rattle.sweep.specs.Rows.{row_made, pair_fits}
 use Rattle.sweep.specs.LastStage.{rows_left, rows_lag, SamplesPut}
 use Rattle.sweep.specs.Levels.{RoomFor}
-use Rattle.sweep.proofs.LevelsLaws.{level_pictures, Progress, progress-none, turn-bounded, turn-swept, turn-rows, progress-more, columns-fail, rows-fail, level-fits, level-left, level-finished}
+use Rattle.sweep.proofs.LevelsLaws.{level_pictures, progress-none, turn-bounded, turn-swept, turn-rows, progress-more, columns-fail, rows-fail, level-fits, level-left, level-finished}
 use Rattle.sweep.proofs.StagesLaws.{stages-made}
 use Rattle.sweep.proofs.level.sweep_level.Goals as goal
 use Rattle.sweep.proofs.level.sweep_level.Goals.{After-filter_pairs, After-join-most, After-lift_turn, In-loop-turn, Start}
@@ -44,7 +42,6 @@ loop-turn-init c =
 
 -- A turn is at most that at which the last stage comes to the last pair.
 module _ (c : In-loop-turn) where
-
   few-turns : c.loop-turn.turn < 2068
   few-turns = omega (arith, c.loop-turn-test.true, c.loop-turn.invariant.0, c.loop-turn.invariant.1, small c.before.before.before.before.before, c.requires.frame_fits.0.rows_most)
 
@@ -58,7 +55,6 @@ interleave_pairs-here-requires c =
 
 -- Once the bands of the turn's pairs are interleaved.
 module _ (c : After-join-most) where
-
   abbrev banded : List ℤ
   banded = c.interleave_pairs-here.new.work
 
@@ -89,7 +85,6 @@ lift_turn-requires c =
 
 -- Once the steps have come to their pairs.
 module _ (c : After-lift_turn) where
-
   abbrev lifted : List ℤ
   lifted = c.lift_turn.new.work
 
@@ -121,8 +116,12 @@ shape_of-samples-then-not-lift_turn c = c.loop-turn.invariant.3
 
 pub returns-then-not-lift_turn : goal.returns-then-not-lift_turn
 returns-then-not-lift_turn c =
-    record { told = columns-fail c.args.level c.args.filter c.args.padded_width c.args.work.now c.args.coefficients.now c.requires.frame_fits.1
-          c.loop-turn.turn ((steps-told (goal.at.returns-then-not-lift_turn c).After-lift_turn).0.1 (not-true _ c.if-not-lift_turn.true)); done = λ wrong. absurd (false≢true wrong); finished = λ wrong. absurd (false≢true wrong) }
+    record {
+      told = columns-fail c.args.level c.args.filter c.args.padded_width c.args.work.now c.args.coefficients.now c.requires.frame_fits.1
+          c.loop-turn.turn ((steps-told (goal.at.returns-then-not-lift_turn c).After-lift_turn).0.1 c.if-not-lift_turn.true);
+      done = λ wrong. absurd (false≢true wrong);
+      finished = λ wrong. absurd (false≢true wrong);
+    }
 
 pub overflow_add-turn-in-loop-turn : goal.overflow_add-turn-in-loop-turn
 overflow_add-turn-in-loop-turn c = omega (arith, few-turns (goal.at.overflow_add-turn-in-loop-turn c).In-loop-turn)
@@ -134,9 +133,8 @@ filter_pairs-requires c =
 
 -- Once the rows of the last stage's pairs are filtered.
 module _ (c : After-filter_pairs) where
-
   abbrev went : c.lift_turn.result ≡ true
-  went = not-false _ c.if-not-lift_turn.false
+  went = c.if-not-lift_turn.false
 
   abbrev from : ℕ
   from = came_to c.args.level.frame.band_rows (rows_lag c.args.level c.args.filter) c.loop-turn.turn
@@ -152,7 +150,7 @@ module _ (c : After-filter_pairs) where
 
   samples-put :
       c.filter_pairs.result ≡ true → c.args.level.finishes ≡ true
-      → SamplesPut c.args.level.crop from to (row_made c.args.level.frame c.args.filter (lifted c.before.before.before.before.before.before.before.before)) c.loop-turn.samples c.filter_pairs.new.samples.0
+      → SamplesPut c.args.level.crop from to (row_made c.args.level.frame c.args.filter (lifted c.before.before.before.before.before.before.before.before)) c.loop-turn.samples c.filter_pairs.new.samples
   samples-put done finishes = rw (c.came_to-first.ensures, c.came_to-end.ensures, c.loop-turn.invariant.0) at (c.filter_pairs.ensures.finished done finishes)
 
 pub shape_of-work-then-not-filter_pairs : goal.shape_of-work-then-not-filter_pairs
@@ -161,18 +159,22 @@ shape_of-work-then-not-filter_pairs c =
 
 pub shape_of-samples-then-not-filter_pairs : goal.shape_of-samples-then-not-filter_pairs
 shape_of-samples-then-not-filter_pairs c =
-    c.filter_pairs.auto.samples.0 ∙ c.loop-turn.invariant.3
+    c.filter_pairs.auto.samples ∙ c.loop-turn.invariant.3
 
 pub returns-then-not-filter_pairs : goal.returns-then-not-filter_pairs
 returns-then-not-filter_pairs c =
-    record { told = rows-fail c.args.level c.args.filter c.args.padded_width c.args.work.now c.args.coefficients.now c.requires.frame_fits.1 c.loop-turn.turn
+    record {
+      told = rows-fail c.args.level c.args.filter c.args.padded_width c.args.work.now c.args.coefficients.now c.requires.frame_fits.1 c.loop-turn.turn
           (λ all.
-          (pairs-told (goal.at.returns-then-not-filter_pairs c).After-filter_pairs).1 (not-true _ c.if-not-filter_pairs.true)
+          (pairs-told (goal.at.returns-then-not-filter_pairs c).After-filter_pairs).1 c.if-not-filter_pairs.true
           (λ k begin end.
           turn-rows c.args.level c.args.filter c.args.padded_width c.args.work.now c.args.coefficients.now c.requires.frame_fits.1
           c.loop-turn.most c.loop-turn.turn c.loop-turn.work c.loop-turn.samples c.loop-turn.invariant.4 c.join-most.result (lifted (goal.at.returns-then-not-filter_pairs c).After-lift_turn) (placed-lifted (goal.at.returns-then-not-filter_pairs c).After-lift_turn)
           ((steps-told (goal.at.returns-then-not-filter_pairs c).After-lift_turn).1 (went (goal.at.returns-then-not-filter_pairs c).After-filter_pairs)) k begin end
-          ∙ all k begin end)); done = λ wrong. absurd (false≢true wrong); finished = λ wrong. absurd (false≢true wrong) }
+          ∙ all k begin end));
+      done = λ wrong. absurd (false≢true wrong);
+      finished = λ wrong. absurd (false≢true wrong);
+    }
 
 pub overflow_add-turn-in-loop-turn-2 : goal.overflow_add-turn-in-loop-turn-2
 overflow_add-turn-in-loop-turn-2 c = omega (arith, few-turns (goal.at.overflow_add-turn-in-loop-turn-2 c).In-loop-turn)
@@ -182,11 +184,11 @@ loop-turn-smaller c = omega (arith, c.loop-turn-test.true)
 
 pub loop-turn-preserved : goal.loop-turn-preserved
 loop-turn-preserved c =
-    let done : c.filter_pairs.result ≡ true = not-false _ c.if-not-filter_pairs.false in (
+    let done : c.filter_pairs.result ≡ true = c.if-not-filter_pairs.false in (
       c.loop-turn.invariant.0,
       c.loop-turn.invariant.1,
       c.filter_pairs.auto.work ∙ long-lifted (goal.at.loop-turn-preserved c).After-lift_turn,
-      c.filter_pairs.auto.samples.0 ∙ c.loop-turn.invariant.3,
+      c.filter_pairs.auto.samples ∙ c.loop-turn.invariant.3,
       progress-more c.args.level c.args.filter c.args.padded_width c.args.work.now c.args.coefficients.now c.requires.frame_fits.1
           c.loop-turn.most c.loop-turn.turn c.loop-turn.work c.loop-turn.samples c.loop-turn.invariant.4 c.join-most.result (lifted (goal.at.loop-turn-preserved c).After-lift_turn) (placed-lifted (goal.at.loop-turn-preserved c).After-lift_turn) ((steps-told (goal.at.loop-turn-preserved c).After-lift_turn).1 (went (goal.at.loop-turn-preserved c).After-filter_pairs))
           (c.lift_turn.ensures.bounded (went (goal.at.loop-turn-preserved c).After-filter_pairs)) ((steps-told (goal.at.loop-turn-preserved c).After-lift_turn).0.0 (went (goal.at.loop-turn-preserved c).After-filter_pairs)) ((pairs-told (goal.at.loop-turn-preserved c).After-filter_pairs).0 done) (room (goal.at.loop-turn-preserved c).After-lift_turn) _ _ (rows-put (goal.at.loop-turn-preserved c).After-filter_pairs done) (samples-put (goal.at.loop-turn-preserved c).After-filter_pairs done),
@@ -201,7 +203,11 @@ shape_of-samples c = c.loop-turn.invariant.3
 pub returns : goal.returns
 returns c =
     let level = c.args.level in
-    let over : level.frame.band_rows + rows_lag level c.args.filter ≤ c.loop-turn.turn = omega (arith, c.loop-turn.invariant.0, c.loop-turn.invariant.1, c.loop-turn-test.false) in record { told = level-fits level c.args.filter c.args.padded_width c.args.work.now c.args.coefficients.now c.requires.frame_fits.1
-          c.loop-turn.most c.loop-turn.turn c.loop-turn.work c.loop-turn.samples over c.loop-turn.invariant.4; done = λ yes. level-left level c.args.filter c.args.padded_width c.args.work.now c.args.coefficients.now c.requires.frame_fits.1
-            c.loop-turn.most c.loop-turn.turn c.loop-turn.work c.loop-turn.samples over c.loop-turn.invariant.4; finished = λ yes finishes. level-finished level c.args.filter c.args.padded_width c.args.work.now c.args.coefficients.now c.requires.frame_fits.1
-            c.loop-turn.most c.loop-turn.turn c.loop-turn.work c.loop-turn.samples over c.loop-turn.invariant.4 finishes (c.requires.frame_fits.4 finishes).1 }
+    let over : level.frame.band_rows + rows_lag level c.args.filter ≤ c.loop-turn.turn = omega (arith, c.loop-turn.invariant.0, c.loop-turn.invariant.1, c.loop-turn-test.false) in record {
+      told = level-fits level c.args.filter c.args.padded_width c.args.work.now c.args.coefficients.now c.requires.frame_fits.1
+          c.loop-turn.most c.loop-turn.turn c.loop-turn.work c.loop-turn.samples over c.loop-turn.invariant.4;
+      done = λ yes. level-left level c.args.filter c.args.padded_width c.args.work.now c.args.coefficients.now c.requires.frame_fits.1
+          c.loop-turn.most c.loop-turn.turn c.loop-turn.work c.loop-turn.samples over c.loop-turn.invariant.4;
+      finished = λ yes finishes. level-finished level c.args.filter c.args.padded_width c.args.work.now c.args.coefficients.now c.requires.frame_fits.1
+          c.loop-turn.most c.loop-turn.turn c.loop-turn.work c.loop-turn.samples over c.loop-turn.invariant.4 finishes (c.requires.frame_fits.4 finishes).1;
+    }

@@ -2,7 +2,6 @@
 use mathlib.Core.Path.{refl, ◌∙◌}
 use Prim.Native.Nat.{◌+◌, ◌*◌, ◌≤◌}
 use native.Mathlib.Omega.{arith}
-use borrow.Author.Rules.{rules}
 use lib.ListN.{length}
 use Rattle.lifting.proofs.LayoutLaws.{row_inside, crop-room}
 use Rattle.sweep.proofs.RowsLaws.{cropped}
@@ -26,16 +25,23 @@ overflow_mul-kept-2 c = omega (arith, (kept (goal.at.overflow_mul-kept-2 c).Afte
 
 pub finish_row-requires : goal.finish_row-requires
 finish_row-requires c =
-    let room = kept (goal.at.finish_row-requires c).After-kept_columns-count in record { well_formed = (
+    let room = kept (goal.at.finish_row-requires c).After-kept_columns-count in record {
+      well_formed = (
         c.requires.well_formed.0,
         (
           c.requires.well_formed.1.0.columns_least,
           c.requires.well_formed.1.0.columns_most,
           row_inside c.args.frame c.args.work.now c.args.work.now c.requires.well_formed.1.0 refl c.args.row c.requires.well_formed.1.1,
         ),
-      ); count_bound = (omega (arith, room.0, c.requires.crop_inside.0), room.1) }
+      );
+      count_bound = (omega (arith, room.0, c.requires.crop_inside.0), room.1);
+    }
 
 pub returns : goal.returns
 returns c =
-    record { told = c.finish_row.ensures.told; done = λ yes. c.finish_row.ensures.done yes
-            ∙ cropped c.args.crop c.args.row c.kept_columns-count.result _ c.args.samples.now c.kept_columns-count.ensures.inside c.kept_columns-count.ensures.below; cleared = λ yes. c.finish_row.ensures.cleared yes }
+    record {
+      told = c.finish_row.ensures.told;
+      done = λ yes. c.finish_row.ensures.done yes
+          ∙ cropped c.args.crop c.args.row c.kept_columns-count.result _ c.args.samples.now c.kept_columns-count.ensures.inside c.kept_columns-count.ensures.below;
+      cleared = λ yes. c.finish_row.ensures.cleared yes;
+    }

@@ -1,15 +1,13 @@
 use mathlib.Core.Path.{◌≡◌, refl, sym, ◌∙◌}
 use mathlib.Core.Bool.{true, false≢true}
-use Prim.Native.Nat.{suc, ◌-◌, ◌≤◌, ◌<◌}
+use Prim.Native.Nat.{suc, ◌<◌}
 use native.Mathlib.Numerals.{add-one}
 use native.Mathlib.Decide.{dec_lt}
 use native.Mathlib.Omega.{arith}
-use borrow.Author.Tests.{not-true, not-false}
-use lib.ListN.{length}
 use Rattle.lifting.specs.Layout.{FrameFits}
 use Rattle.lifting.specs.Lines.{new_row_fits}
 use Rattle.lifting.proofs.LayoutLaws.{frame-fits-same}
-use Rattle.sweep.specs.Pairs.{EachPair, FramePut}
+use Rattle.sweep.specs.Pairs.{FramePut}
 use Rattle.sweep.specs.Turns.{stepped}
 use Rattle.sweep.proofs.PairsLaws.{pairs-none, pairs-joined}
 use Rattle.sweep.proofs.TurnsLaws.{fits_kept, within-kept, row_put}
@@ -21,7 +19,6 @@ loop-k-init c = (omega arith, omega (arith, c.requires.from_le_to.0), refl, λ k
 
 -- Pair k of the plane as it is at the head of a turn.
 module _ (c : In-loop-k) where
-
   abbrev put : FramePut c.args.frame c.args.from c.loop-k.k (stepped c.args.frame c.args.step c.args.work.now) c.args.work.now c.loop-k.work
   put = c.loop-k.invariant.4
 
@@ -36,18 +33,24 @@ module _ (c : In-loop-k) where
 
 pub lift_row-requires : goal.lift_row-requires
 lift_row-requires c =
-    record { frame_fits = (placed (goal.at.lift_row-requires c).In-loop-k, c.requires.frame_fits.1, inside (goal.at.lift_row-requires c).In-loop-k, c.requires.frame_fits.2); step_rows_within = within-kept c.args.frame c.args.step c.args.work.now c.args.from c.loop-k.k (inside (goal.at.lift_row-requires c).In-loop-k) c.loop-k.work (placed (goal.at.lift_row-requires c).In-loop-k) (put (goal.at.lift_row-requires c).In-loop-k)
-          c.args.bounds (c.requires.from_le_to.2 c.loop-k.k c.loop-k.invariant.0 c.loop-k-test.true) }
+    record {
+      frame_fits = (placed (goal.at.lift_row-requires c).In-loop-k, c.requires.frame_fits.1, inside (goal.at.lift_row-requires c).In-loop-k, c.requires.frame_fits.2);
+      step_rows_within = within-kept c.args.frame c.args.step c.args.work.now c.args.from c.loop-k.k (inside (goal.at.lift_row-requires c).In-loop-k) c.loop-k.work (placed (goal.at.lift_row-requires c).In-loop-k) (put (goal.at.lift_row-requires c).In-loop-k)
+          c.args.bounds (c.requires.from_le_to.2 c.loop-k.k c.loop-k.invariant.0 c.loop-k-test.true);
+    }
 
 pub shape_of-work-then-not-lift_row : goal.shape_of-work-then-not-lift_row
 shape_of-work-then-not-lift_row c = c.lift_row.auto.work ∙ c.loop-k.invariant.2
 
 pub returns-then-not-lift_row : goal.returns-then-not-lift_row
 returns-then-not-lift_row c =
-    record { told = (
+    record {
+      told = (
         λ wrong. absurd (false≢true wrong),
-        λ same all. false≢true (sym (not-true _ c.if-not-lift_row.true) ∙ c.lift_row.ensures.told ∙ kept (goal.at.returns-then-not-lift_row c).In-loop-k ∙ all c.loop-k.k c.loop-k.invariant.0 c.loop-k-test.true),
-      ); done = λ wrong. absurd (false≢true wrong) }
+        λ same all. false≢true (sym c.if-not-lift_row.true ∙ c.lift_row.ensures.told ∙ kept (goal.at.returns-then-not-lift_row c).In-loop-k ∙ all c.loop-k.k c.loop-k.invariant.0 c.loop-k-test.true),
+      );
+      done = λ wrong. absurd (false≢true wrong);
+    }
 
 pub overflow_add-k : goal.overflow_add-k
 overflow_add-k c =
@@ -58,7 +61,7 @@ loop-k-smaller c = omega (arith, c.loop-k-test.true)
 
 pub loop-k-preserved : goal.loop-k-preserved
 loop-k-preserved c =
-    let went : c.lift_row.result ≡ true = not-false _ c.if-not-lift_row.false in
+    let went : c.lift_row.result ≡ true = c.if-not-lift_row.false in
     rw (add-one c.loop-k.k) (
       omega (arith, c.loop-k.invariant.0),
       omega (arith, c.loop-k-test.true),

@@ -1,19 +1,10 @@
 -- `sweep::turns::lift_rows` meets its contract: after some turns the rows of as many pairs are those that the step makes of the whole plane.
-use mathlib.Core.Path.{◌≡◌, refl, sym, ◌∙◌}
-use mathlib.Core.Bool.{true, false≢true}
-use Prim.Native.Nat.{suc, ◌-◌, ◌≤◌, ◌<◌}
-use native.Mathlib.Numerals.{add-one}
-use native.Mathlib.Decide.{dec_lt}
-use native.Mathlib.Omega.{arith}
-use borrow.Author.Tests.{not-true, not-false}
+use mathlib.Core.Path.{◌≡◌}
+use Prim.Native.Nat.{◌-◌, ◌≤◌}
 use lib.ListN.{length}
-use Rattle.lifting.specs.Layout.{FrameFits}
 use Rattle.lifting.specs.Lines.{new_row_fits}
-use Rattle.lifting.proofs.LayoutLaws.{frame-fits-same}
 use Rattle.sweep.specs.Pairs.{EachPair, FramePut}
 use Rattle.sweep.specs.Turns.{stepped}
-use Rattle.sweep.proofs.PairsLaws.{pairs-none, pairs-joined}
-use Rattle.sweep.proofs.TurnsLaws.{fits_kept, within-kept, row_put}
 use Rattle.sweep.proofs.turns.lift_rows.Given as goal
 
 abbrev pub invariant-loop-k : goal.invariant-loop-k

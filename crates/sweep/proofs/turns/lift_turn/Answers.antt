@@ -1,15 +1,12 @@
 use mathlib.Core.Path.{◌≡◌, refl, sym, ap, ◌∙◌}
 use mathlib.Core.Bool.{true, false, false≢true}
 use mathlib.Core.List.{List}
-use Prim.Native.Nat.{ℕ, suc, ◌+◌, ◌-◌, ◌*◌, ◌^◌, ◌≤◌, ◌<◌}
+use Prim.Native.Nat.{ℕ, suc, ◌+◌, ◌*◌, ◌≤◌, ◌<◌}
 use native.Mathlib.Nat.{mul-le-mul}
 use native.Mathlib.Decide.{dec_lt}
 use native.Mathlib.Numerals.{add-one}
 use native.Mathlib.Omega.{arith}
-use borrow.Author.Rules.{rules}
-use borrow.Author.Tests.{not-true, not-false}
 use lib.IntN.{ℤ}
-use lib.ListN.{length}
 use Rattle.filters.specs.Bounds.{bounds_after}
 use Rattle.filters.specs.Passes.{Picture}
 use Rattle.filters.specs.Table.{WellFormedStep}
@@ -20,7 +17,7 @@ use Rattle.lifting.specs.Lines.{new_row_fits}
 use Rattle.lifting.proofs.LayoutLaws.{frame-fits-same}
 use Rattle.sweep.specs.Pairs.{EachPair, FramePut}
 use Rattle.sweep.specs.Stages.{Stages, Swept, came_to, reach_in, step_at}
-use Rattle.sweep.specs.Turns.{Bounded, bounds_by, step_fits, stepped}
+use Rattle.sweep.specs.Turns.{bounds_by, step_fits, stepped}
 use Rattle.sweep.proofs.TurnsLaws.{pair-due, row_within, step-told, swept-more, bounded-more}
 use Rattle.sweep.proofs.turns.lift_turn.Goals as goal
 use Rattle.sweep.proofs.turns.lift_turn.Goals.{After-lift_rows, In-loop-i}
@@ -34,14 +31,10 @@ loop-i-init c =
 pub bounds-filter-i : goal.bounds-filter-i
 bounds-filter-i c = omega (arith, c.loop-i-test.true, c.requires.frame_fits.1.few)
 
-pub offset_bounds-filter-i : goal.offset_bounds-filter-i
-offset_bounds-filter-i c = omega (arith, element-copy-out-step (goal.at.offset_bounds-filter-i c).In-loop-i)
-
 -- Step i of the filter, over the plane as it is at the head of a turn.
 module _ (c : In-loop-i) where
-
   abbrev step : LiftingStep
-  step = step_at c.args.t3 c.loop-i.i
+  step = step_at c.args.filter c.loop-i.i
 
   formed : WellFormedStep step
   formed = c.requires.frame_fits.1.each c.loop-i.i _ c.loop-i-test.true
@@ -63,12 +56,12 @@ module _ (c : In-loop-i) where
 
   -- a test of the plane's rows is that of the next stage's
   told :
-      (stages : ℕ → Picture) → Stages c.args.frame c.args.t3 stages
-      → Swept c.args.frame c.args.gap (reach_in c.args.frame c.args.t3 c.args.turn (suc c.loop-i.i)) stages c.loop-i.work
-      → (k : ℕ) → from ≤ k → k < to → new_row_fits c.args.frame step c.loop-i.work k ≡ step_fits c.args.frame c.args.t3 stages c.loop-i.i k
+      (stages : ℕ → Picture) → Stages c.args.frame c.args.filter stages
+      → Swept c.args.frame c.args.gap (reach_in c.args.frame c.args.filter c.args.turn (suc c.loop-i.i)) stages c.loop-i.work
+      → (k : ℕ) → from ≤ k → k < to → new_row_fits c.args.frame step c.loop-i.work k ≡ step_fits c.args.frame c.args.filter stages c.loop-i.i k
   told stages made all k first end =
-      let at = pair-due c.args.frame c.args.t3 c.args.gap c.args.turn c.loop-i.i c.loop-i-test.true c.requires.frame_fits.2 c.loop-i.work k first end in
-      step-told c.args.frame c.args.t3 c.args.gap c.args.turn c.loop-i.i c.loop-i-test.true c.requires.frame_fits.2 c.loop-i.work k at.0 at.1 stages made all
+      let at = pair-due c.args.frame c.args.filter c.args.gap c.args.turn c.loop-i.i c.loop-i-test.true c.requires.frame_fits.2 c.loop-i.work k first end in
+      step-told c.args.frame c.args.filter c.args.gap c.args.turn c.loop-i.i c.loop-i-test.true c.requires.frame_fits.2 c.loop-i.work k at.0 at.1 stages made all
 
 pub overflow_mul-lag : goal.overflow_mul-lag
 overflow_mul-lag c = omega (arith, small (goal.at.overflow_mul-lag c).In-loop-i)
@@ -78,18 +71,20 @@ overflow_add-turn c = omega (arith, c.requires.frame_fits.4)
 
 pub lift_rows-requires : goal.lift_rows-requires
 lift_rows-requires c =
-    rw (c.came_to-from.ensures, c.came_to-to.ensures) (record { frame_fits = (placed (goal.at.lift_rows-requires c).In-loop-i, formed (goal.at.lift_rows-requires c).In-loop-i, (c.loop-i.invariant.3, c.loop-i.invariant.4)); from_le_to = (
+    rw (c.came_to-from.ensures, c.came_to-to.ensures) (record {
+      frame_fits = (placed (goal.at.lift_rows-requires c).In-loop-i, formed (goal.at.lift_rows-requires c).In-loop-i, (c.loop-i.invariant.3, c.loop-i.invariant.4));
+      from_le_to = (
         omega arith,
         omega arith,
         λ k begin end.
-            let at = pair-due c.args.frame c.args.t3 c.args.gap c.args.turn c.loop-i.i c.loop-i-test.true c.requires.frame_fits.2 c.loop-i.work k begin end in
+            let at = pair-due c.args.frame c.args.filter c.args.gap c.args.turn c.loop-i.i c.loop-i-test.true c.requires.frame_fits.2 c.loop-i.work k begin end in
             rw c.loop-i.invariant.2
-            (row_within c.args.frame c.args.t3 c.args.gap c.args.turn c.loop-i.i c.loop-i-test.true c.requires.frame_fits.2 c.loop-i.work k at.0 at.1 _ c.loop-i.invariant.5),
-      ) })
+            (row_within c.args.frame c.args.filter c.args.gap c.args.turn c.loop-i.i c.loop-i-test.true c.requires.frame_fits.2 c.loop-i.work k at.0 at.1 _ c.loop-i.invariant.5),
+      );
+    })
 
 -- Once the step has come to its pairs.
 module _ (c : After-lift_rows) where
-
   abbrev after : List ℤ
   after = c.lift_rows.new.work
 
@@ -108,14 +103,17 @@ shape_of-work-then-not-lift_rows c =
 
 pub returns-then-not-lift_rows : goal.returns-then-not-lift_rows
 returns-then-not-lift_rows c =
-    record { bounded = λ wrong. absurd (false≢true wrong); swept = λ stages made all.
+    record {
+      bounded = λ wrong. absurd (false≢true wrong);
+      swept = λ stages made all.
           let swept = c.loop-i.invariant.6 stages made all in (
             (
               λ wrong. absurd (false≢true wrong),
-              λ same fits. failed (goal.at.returns-then-not-lift_rows c).After-lift_rows (not-true _ c.if-not-lift_rows.true) (λ k begin end. told (goal.at.returns-then-not-lift_rows c).In-loop-i stages made swept.1 k begin end ∙ fits c.loop-i.i c.loop-i-test.true k begin end),
+              λ same fits. failed (goal.at.returns-then-not-lift_rows c).After-lift_rows c.if-not-lift_rows.true (λ k begin end. told (goal.at.returns-then-not-lift_rows c).In-loop-i stages made swept.1 k begin end ∙ fits c.loop-i.i c.loop-i-test.true k begin end),
             ),
             λ wrong. absurd (false≢true wrong),
-          ) }
+          );
+    }
 
 pub bounds_after-bounds-requires : goal.bounds_after-bounds-requires
 bounds_after-bounds-requires c =
@@ -125,7 +123,7 @@ pub loop-i-preserved : goal.loop-i-preserved
 unfolding bounds_by
 loop-i-preserved c =
     let i = c.loop-i.i in
-    let went : c.lift_rows.result ≡ true = not-false c.lift_rows.result c.if-not-lift_rows.false in
+    let went : c.lift_rows.result ≡ true = c.if-not-lift_rows.false in
     let most = bounds-most (step (goal.at.loop-i-preserved c).In-loop-i) c.loop-i.bounds c.loop-i.invariant.3 c.loop-i.invariant.4 in
     rw (add-one i) (
       omega (arith, c.loop-i-test.true),
@@ -133,7 +131,7 @@ loop-i-preserved c =
       c.bounds_after-bounds.ensures ∙ ap (bounds_after (step (goal.at.loop-i-preserved c).In-loop-i)) c.loop-i.invariant.2,
       rw c.bounds_after-bounds.ensures most.0,
       rw c.bounds_after-bounds.ensures most.1,
-      bounded-more c.args.frame c.args.t3 c.args.gap c.args.turn i c.loop-i-test.true c.requires.frame_fits.2 c.loop-i.work _ (put (goal.at.loop-i-preserved c).After-lift_rows went) _ (formed (goal.at.loop-i-preserved c).In-loop-i)
+      bounded-more c.args.frame c.args.filter c.args.gap c.args.turn i c.loop-i-test.true c.requires.frame_fits.2 c.loop-i.work _ (put (goal.at.loop-i-preserved c).After-lift_rows went) _ (formed (goal.at.loop-i-preserved c).In-loop-i)
           (tested (goal.at.loop-i-preserved c).After-lift_rows went) c.loop-i.invariant.5,
       λ stages made all.
           let swept = c.loop-i.invariant.6 stages made all in (
@@ -144,7 +142,7 @@ loop-i-preserved c =
                       let same : n ≡ i = omega arith in
                       rw same (λ k begin end. sym (told (goal.at.loop-i-preserved c).In-loop-i stages made swept.1 k begin end) ∙ tested (goal.at.loop-i-preserved c).After-lift_rows went k begin end)
                 ],
-            swept-more c.args.frame c.args.t3 c.args.gap c.args.turn i c.loop-i-test.true c.requires.frame_fits.2 c.loop-i.work _ (put (goal.at.loop-i-preserved c).After-lift_rows went) stages made swept.1,
+            swept-more c.args.frame c.args.filter c.args.gap c.args.turn i c.loop-i-test.true c.requires.frame_fits.2 c.loop-i.work _ (put (goal.at.loop-i-preserved c).After-lift_rows went) stages made swept.1,
           ),
     )
 
@@ -153,6 +151,9 @@ shape_of-work c = c.loop-i.invariant.1
 
 pub returns : goal.returns
 returns c =
-    let all : c.loop-i.i ≡ c.args.t3.count = omega (arith, c.loop-i.invariant.0, c.loop-i-test.false) in record { bounded = λ yes. rw all at c.loop-i.invariant.5; swept = λ stages made came.
+    let all : c.loop-i.i ≡ c.args.filter.count = omega (arith, c.loop-i.invariant.0, c.loop-i-test.false) in record {
+      bounded = λ yes. rw all at c.loop-i.invariant.5;
+      swept = λ stages made came.
           let swept = c.loop-i.invariant.6 stages made came in
-          ((λ yes n few. swept.0 n (omega (arith, few)), λ wrong. absurd (false≢true (sym wrong))), λ yes. rw all at swept.1) }
+          ((λ yes n few. swept.0 n (omega (arith, few)), λ wrong. absurd (false≢true (sym wrong))), λ yes. rw all at swept.1);
+    }

@@ -1,28 +1,11 @@
 -- `sweep::turns::lift_turn` meets its contract: after i turns the first i steps have come to their pairs.
-use mathlib.Core.Path.{◌≡◌, refl, sym, ap, ◌∙◌}
-use mathlib.Core.Bool.{true, false, false≢true}
-use mathlib.Core.List.{List}
+use mathlib.Core.Path.{◌≡◌}
 use Prim.Native.Nat.{ℕ, suc, ◌+◌, ◌-◌, ◌*◌, ◌^◌, ◌≤◌, ◌<◌}
-use native.Mathlib.Nat.{mul-le-mul}
-use native.Mathlib.Decide.{dec_lt}
-use native.Mathlib.Numerals.{add-one}
-use native.Mathlib.Omega.{arith}
-use borrow.Author.Rules.{rules}
-use borrow.Author.Tests.{not-true, not-false}
-use lib.IntN.{ℤ}
 use lib.ListN.{length}
-use Rattle.filters.specs.Bounds.{bounds_after}
 use Rattle.filters.specs.Passes.{Picture}
-use Rattle.filters.specs.Table.{WellFormedStep}
-use Rattle.filters.proofs.BoundsLaws.{bounds-most}
-use Rattle.filters.specs.declared.filter.LiftingStep.{LiftingStep}
-use Rattle.lifting.specs.Layout.{FrameFits}
-use Rattle.lifting.specs.Lines.{new_row_fits}
-use Rattle.lifting.proofs.LayoutLaws.{frame-fits-same}
-use Rattle.sweep.specs.Pairs.{EachPair, FramePut}
-use Rattle.sweep.specs.Stages.{Stages, Swept, came_to, reach_in, step_at}
-use Rattle.sweep.specs.Turns.{Bounded, bounds_by, step_fits, stepped}
-use Rattle.sweep.proofs.TurnsLaws.{pair-due, row_within, step-told, swept-more, bounded-more}
+use Rattle.sweep.specs.Pairs.{EachPair}
+use Rattle.sweep.specs.Stages.{Stages, Swept, came_to, reach_in}
+use Rattle.sweep.specs.Turns.{Bounded, bounds_by, step_fits}
 use Rattle.sweep.proofs.turns.lift_turn.Given as goal
 
 abbrev pub invariant-loop-i : goal.invariant-loop-i

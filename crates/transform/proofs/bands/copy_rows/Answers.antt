@@ -1,5 +1,5 @@
-use mathlib.Core.Path.{◌≡◌, refl, ◌∙◌}
-use Prim.Native.Nat.{ℕ, ◌+◌, ◌-◌, ◌*◌, ◌≤◌, ◌<◌}
+use mathlib.Core.Path.{refl, ◌∙◌}
+use Prim.Native.Nat.{◌+◌, ◌*◌, ◌≤◌}
 use native.Mathlib.Omega.{arith}
 use lib.IntN.{pos}
 use lib.ListN.{length, get_or}
@@ -30,14 +30,13 @@ pub copy-requires : goal.copy-requires
 copy-requires c = (omega (arith, to_end (goal.at.copy-requires c).In-loop-row, c.loop-row.invariant.1), from_end (goal.at.copy-requires c).In-loop-row)
 
 pub loop-row-preserved : goal.loop-row-preserved
-loop-row-preserved c =
-    (
-      omega arith,
-      c.copy.auto.plane ∙ c.loop-row.invariant.1,
-      rw c.copy.ensures
-          (rows-stored c.loop-row.to c.args.to_stride c.loop-row.row c.args.columns (λ r x. get_or c.args.from.now (r * c.args.from_stride + x) (pos 0)) (pos 0)
-          c.requires.columns_le_to_stride.0 (omega (arith, to_end (goal.at.loop-row-preserved c).In-loop-row, c.loop-row.invariant.1)) c.loop-row.invariant.2),
-    )
+loop-row-preserved c = (
+  omega arith,
+  c.copy.auto.plane ∙ c.loop-row.invariant.1,
+  rw c.copy.ensures
+      (rows-stored c.loop-row.to c.args.to_stride c.loop-row.row c.args.columns (λ r x. get_or c.args.from.now (r * c.args.from_stride + x) (pos 0)) (pos 0)
+      c.requires.columns_le_to_stride.0 (omega (arith, to_end (goal.at.loop-row-preserved c).In-loop-row, c.loop-row.invariant.1)) c.loop-row.invariant.2),
+)
 
 pub shape_of-to : goal.shape_of-to
 shape_of-to c = c.loop-row.invariant.1

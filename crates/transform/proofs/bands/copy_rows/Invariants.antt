@@ -1,11 +1,8 @@
 -- `transform::bands::copy_rows` meets its contract: after each turn the rows so far are copied, and no row meets another.
-use mathlib.Core.Path.{◌≡◌, refl, ◌∙◌}
+use mathlib.Core.Path.{◌≡◌}
 use Prim.Native.Nat.{ℕ, ◌+◌, ◌-◌, ◌*◌, ◌≤◌, ◌<◌}
-use native.Mathlib.Omega.{arith}
 use lib.IntN.{pos}
 use lib.ListN.{length, get_or}
-use Rattle.base.proofs.Grids.{row-end, rows-stored}
-use Rattle.filters.specs.Planes.{picture_of}
 use Rattle.transform.proofs.bands.copy_rows.Given as goal
 
 abbrev pub invariant-loop-row : goal.invariant-loop-row

@@ -2,7 +2,6 @@
 use mathlib.Core.Path.{◌≡◌, sym, ap, ◌∙◌}
 use Prim.Native.Nat.{ℕ, suc, ◌-◌, ◌*◌, ◌^◌}
 use native.Mathlib.Omega.{arith}
-use borrow.Author.Rules.{rules}
 use Rattle.component.proofs.SizesLaws.{size_at-power}
 use Rattle.transform.proofs.GeometryLaws.{size-shifted}
 use Rattle.transform.proofs.levels.next_frame.Goals as goal

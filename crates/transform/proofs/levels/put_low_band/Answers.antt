@@ -1,13 +1,13 @@
 -- `transform::levels::put_low_band` meets its contract: the rows of the low band are apart in the planes.
 use mathlib.Core.Path.{◌≡◌}
-use Prim.Native.Nat.{◌-◌, ◌*◌, ◌%◌, ◌^◌}
+use Prim.Native.Nat.{ℕ, ◌-◌, ◌*◌, ◌%◌, ◌^◌}
 use native.Mathlib.Nat.{mul-le-mul_right}
 use native.Mathlib.Omega.{arith}
-use borrow.Author.Rules.{rules}
 use Rattle.component.specs.Sizes.{size_at}
+use Rattle.transform.specs.declared.levels.Extent.{Extent}
+use Rattle.transform.specs.Geometry.{Geometry}
 use Rattle.transform.proofs.GeometryLaws.{size-shifted, low-apart, low-inside, low_narrow, low-whole}
 use Rattle.transform.proofs.levels.put_low_band.Goals as goal
-use Rattle.transform.proofs.levels.put_low_band.Goals.{After-copy_rows-arg-2-1}
 
 -- where there are no levels, the samples are in the low band
 pub copy_rows-requires : goal.copy_rows-requires
@@ -30,22 +30,20 @@ returns-then-extent-eq0 c =
     }
 
 -- the stride is what its shift says
-stride-is : (c : After-copy_rows-arg-2-1) →
-    let e = c.args.extent in
-    (e.padded_width * 2 ^ e.depth) % 2 ^ 64 ≡ e.padded_width * 2 ^ e.depth
-stride-is c = size-shifted _ _ c.requires.0.width_most c.requires.0.depth_most
+stride-is : (e : Extent) (area : ℕ) → Geometry e area → (e.padded_width * 2 ^ e.depth) % 2 ^ 64 ≡ e.padded_width * 2 ^ e.depth
+stride-is e area g = size-shifted _ _ g.width_most g.depth_most
 
 pub copy_rows-requires-2 : goal.copy_rows-requires-2
 copy_rows-requires-2 c =
     let g = c.requires.0 in
-    record { columns_le_to_stride = (rw (stride-is (goal.at.copy_rows-requires-2 c).After-copy_rows-arg-2-1) (low-apart _ _ g), rw (stride-is (goal.at.copy_rows-requires-2 c).After-copy_rows-arg-2-1) (low-inside _ _ g)); columns_le_from_stride = (low_narrow _ _ g, omega (arith, low-whole _ _ g, c.requires.1)) }
+    record { columns_le_to_stride = (rw (stride-is _ _ g) (low-apart _ _ g), rw (stride-is _ _ g) (low-inside _ _ g)); columns_le_from_stride = (low_narrow _ _ g, omega (arith, low-whole _ _ g, c.requires.1)) }
 
 pub returns : goal.returns
 unfolding size_at
 returns c =
     let whole : c.args.extent.depth - 0 ≡ c.args.extent.depth = omega arith in
     record {
-      in_work = λ less. rw whole (rw (stride-is (goal.at.returns c).After-copy_rows-arg-2-1) at c.copy_rows-2.ensures);
+      in_work = λ less. rw whole (rw (stride-is _ _ c.requires.0) at c.copy_rows-2.ensures);
       in_samples = λ e. absurd (omega (arith, c.if-extent-eq0.false));
       cleared = λ e. absurd (omega (arith, c.if-extent-eq0.false));
     }

@@ -35,7 +35,6 @@ overflow_add-finishes c = omega (arith, c.requires.well_formed.1, c.requires.pla
 
 -- what the level's bands and the picture below make up, by the frame and by the contract
 module _ (c : After-next_frame-frame) where
-
   abbrev bands : ℕ
   bands = c.next_frame-frame.result.band_rows
 
@@ -84,7 +83,8 @@ module _ (c : After-next_frame-frame) where
 pub sweep_level-requires : goal.sweep_level-requires
 sweep_level-requires c =
     let told = c.next_frame-frame.ensures in
-    let gap = c.gap_of-gap.ensures in record { frame_fits = (
+    let gap = c.gap_of-gap.ensures in record {
+      frame_fits = (
         placed-here (goal.at.sweep_level-requires c).After-next_frame-frame,
         c.requires.well_formed.0,
         gap.0,
@@ -92,16 +92,18 @@ sweep_level-requires c =
         λ finishes.
             let last : suc c.args.below ≡ c.args.extent.depth = omega (arith, eqb-true (c.args.below + 1) c.args.extent.depth finishes) in
             ((fewer (goal.at.sweep_level-requires c).After-next_frame-frame last).0, (fewer (goal.at.sweep_level-requires c).After-next_frame-frame last).1, c.requires.planes.2),
-      ); bands_inside = (
+      );
+      bands_inside = (
         rw told.2 (next-columns _ _ c.requires.planes.0 c.args.below c.requires.well_formed.1),
         rw (told.1, c.requires.planes.1) (rows_whole _ _ c.requires.planes.0 c.args.below c.requires.well_formed.1),
-      ) }
+      );
+    }
 
 pub shape_of-work : goal.shape_of-work
 shape_of-work c = c.sweep_level.auto.work
 
 pub shape_of-samples : goal.shape_of-samples
-shape_of-samples c = c.sweep_level.auto.samples.0
+shape_of-samples c = c.sweep_level.auto.samples
 
 -- whether the level is the component's, as the code asks it
 is_last : (below depth : ℕ) → suc below ≡ depth → eqb (below + 1) depth ≡ true
@@ -117,17 +119,20 @@ returns c =
     let told = c.next_frame-frame.ensures in
     let sizes = placed-here (goal.at.returns c).After-next_frame-frame in
     let test = swept-told frame c.args.filter c.requires.well_formed.0 sizes.rows_least sizes.columns_least c.args.extent.padded_width (start-work (goal.at.returns c).After-next_frame-frame) c.args.coefficients.now in
-    let picture = swept-made frame c.args.filter c.requires.well_formed.0 sizes.rows_least sizes.columns_least c.args.extent.padded_width (start-work (goal.at.returns c).After-next_frame-frame) c.args.coefficients.now in record { told = by-extent (goal.at.returns c).After-next_frame-frame (λ bh bw s s2. c.sweep_level.result ≡ fits (goal.at.returns c).After-next_frame-frame bh bw s2) (c.sweep_level.ensures.told ∙ test); done = λ yes. record {
+    let picture = swept-made frame c.args.filter c.requires.well_formed.0 sizes.rows_least sizes.columns_least c.args.extent.padded_width (start-work (goal.at.returns c).After-next_frame-frame) c.args.coefficients.now in record {
+      told = by-extent (goal.at.returns c).After-next_frame-frame (λ bh bw s s2. c.sweep_level.result ≡ fits (goal.at.returns c).After-next_frame-frame bh bw s2) (c.sweep_level.ensures.told ∙ test);
+      done = λ yes. record {
         in_work = λ less.
             by-extent (goal.at.returns c).After-next_frame-frame (λ bh bw s s2. Agree (2 * bh) (2 * bw) (picture_of s c.sweep_level.new.work) (made (goal.at.returns c).After-next_frame-frame bh bw s2))
             (λ row x r i. rw (not_last _ _ less) at (c.sweep_level.ensures.done yes row x r i) ∙ picture (sym c.sweep_level.ensures.told ∙ yes) row x r i);
         in_samples = λ last.
             let inside = fewer (goal.at.returns c).After-next_frame-frame last in
             by-extent (goal.at.returns c).After-next_frame-frame
-            (λ bh bw s s2. Agree c.args.extent.height c.args.extent.width (picture_of c.args.extent.width c.sweep_level.new.samples.0) (made (goal.at.returns c).After-next_frame-frame bh bw s2))
+            (λ bh bw s s2. Agree c.args.extent.height c.args.extent.width (picture_of c.args.extent.width c.sweep_level.new.samples) (made (goal.at.returns c).After-next_frame-frame bh bw s2))
             (λ row x r i.
             c.sweep_level.ensures.finished yes (is_last _ _ last) row x r i ∙ picture (sym c.sweep_level.ensures.told ∙ yes) row x (omega (arith, inside.1)) (omega (arith, inside.0)));
         cleared = λ last.
             cleared-all _ _ c.requires.planes.0 c.args.below c.requires.well_formed.1 frame told.0 told.1 told.2 last c.sweep_level.new.work (start-work (goal.at.returns c).After-next_frame-frame)
             c.sweep_level.auto.work refl (λ row x r i. rw (is_last _ _ last) at (c.sweep_level.ensures.done yes row x r i));
-      } }
+      };
+    }
