@@ -1,5 +1,6 @@
 // Document 02, request Four: low delay slices, from bytes to the coefficients of three components.
 #![tactic(auto)]
+
 pub mod checks;
 pub mod finish;
 pub mod headers;

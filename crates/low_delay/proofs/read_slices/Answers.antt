@@ -1,14 +1,11 @@
 use mathlib.Core.Path.{◌≡◌, refl, sym, ap, ◌∙◌}
-use Prim.Native.Nat.{suc, ◌-◌, ◌≤◌}
+use Prim.Native.Nat.{suc, ◌-◌}
 use native.Mathlib.Numerals.{add-one}
 use native.Mathlib.Omega.{arith}
-use lib.ListN.{length}
-use borrow.Author.Rules.{rules}
 use Rattle.slices.specs.Planes.{planes_of}
-use Rattle.slices.specs.Reads.{Blank}
 use Rattle.slices.proofs.PartsLaws.{lengths-same}
 use Rattle.slices.proofs.ReadsLaws.{blank-zeros, left-on}
-use Rattle.low_delay.specs.Job.{result, outcome, slices_from}
+use Rattle.low_delay.specs.Job.{result, outcome}
 use Rattle.low_delay.proofs.JobLaws.{zeros-same, slices-read, slices-refused, slices-over}
 use Rattle.low_delay.proofs.read_slices.Goals as goal
 
@@ -39,9 +36,9 @@ loop-k-preserved c =
     let told = c.in-At.is in (
       omega (arith, c.loop-k-test),
       c.read_slice.auto.luma ∙ inv.1,
-      c.read_slice.auto.first.0 ∙ inv.2,
-      c.read_slice.auto.first.1.0 ∙ inv.3,
-      c.read_slice.auto.first.1.1.1.1.0 ∙ inv.4,
+      c.read_slice.auto.first ∙ inv.2,
+      c.read_slice.auto.second ∙ inv.3,
+      c.read_slice.auto.run ∙ inv.4,
       c.read_slice.ensures.run_blank _ told,
       inv.6 ∙ rw (add-one c.loop-k.k) (slices-read _ _ c.loop-k.k _ _ _ _ _ (omega (arith, c.loop-k-test)) (left-on _ _ _ _ _ c.read_slice.ensures _ told)),
     )
@@ -50,10 +47,10 @@ pub shape_of-luma-in-Refused : goal.shape_of-luma-in-Refused
 shape_of-luma-in-Refused c = c.zero_planes.auto.luma ∙ c.read_slice.auto.luma ∙ c.loop-k.invariant.1
 
 pub shape_of-first-in-Refused : goal.shape_of-first-in-Refused
-shape_of-first-in-Refused c = c.zero_planes.auto.first.0 ∙ c.read_slice.auto.first.0 ∙ c.loop-k.invariant.2
+shape_of-first-in-Refused c = c.zero_planes.auto.first ∙ c.read_slice.auto.first ∙ c.loop-k.invariant.2
 
 pub shape_of-second-in-Refused : goal.shape_of-second-in-Refused
-shape_of-second-in-Refused c = c.zero_planes.auto.first.1.0 ∙ c.read_slice.auto.first.1.0 ∙ c.loop-k.invariant.3
+shape_of-second-in-Refused c = c.zero_planes.auto.second ∙ c.read_slice.auto.second ∙ c.loop-k.invariant.3
 
 pub returns-in-Refused : goal.returns-in-Refused
 unfolding outcome
@@ -62,7 +59,7 @@ returns-in-Refused c =
     let told = c.in-Refused.is in
     let left : c.slice_count-count.result - c.loop-k.k ≡ suc (c.slice_count-count.result - suc c.loop-k.k) = omega (arith, c.loop-k-test) in
     ap (result c.in-Refused.status c.loop-k.k)
-    (c.zero_planes.ensures ∙ zeros-same _ (planes_of c.loop-k.luma c.loop-k.first c.loop-k.second) c.read_slice.auto.luma c.read_slice.auto.first.0 c.read_slice.auto.first.1.0)
+    (c.zero_planes.ensures ∙ zeros-same _ (planes_of c.loop-k.luma c.loop-k.first c.loop-k.second) c.read_slice.auto.luma c.read_slice.auto.first c.read_slice.auto.second)
     ∙ sym (slices-refused _ _ c.loop-k.k _ _ _ _ _ left (sym c.read_slice.ensures.progress_is ∙ told))
     ∙ sym c.loop-k.invariant.6 ∙ rw count refl
 
@@ -72,13 +69,13 @@ finish-requires c =
     (c.requires.0, c.requires.1, lengths-same _ _ _ _ _ _ _ inv.1 inv.2 inv.3 c.requires.2)
 
 pub shape_of-luma : goal.shape_of-luma
-shape_of-luma c = c.finish.auto.first.0 ∙ c.loop-k.invariant.1
+shape_of-luma c = c.finish.auto.luma ∙ c.loop-k.invariant.1
 
 pub shape_of-first : goal.shape_of-first
-shape_of-first c = c.finish.auto.first.1.0 ∙ c.loop-k.invariant.2
+shape_of-first c = c.finish.auto.first ∙ c.loop-k.invariant.2
 
 pub shape_of-second : goal.shape_of-second
-shape_of-second c = c.finish.auto.first.1.1.0 ∙ c.loop-k.invariant.3
+shape_of-second c = c.finish.auto.second ∙ c.loop-k.invariant.3
 
 pub returns : goal.returns
 returns c =

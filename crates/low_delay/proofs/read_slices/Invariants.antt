@@ -1,16 +1,10 @@
 -- `low_delay::read_slices` meets its contract: at the loop's head what is left is what follows from the planes so far.
-use mathlib.Core.Path.{◌≡◌, refl, sym, ap, ◌∙◌}
-use Prim.Native.Nat.{suc, ◌-◌, ◌≤◌}
-use native.Mathlib.Numerals.{add-one}
-use native.Mathlib.Omega.{arith}
+use mathlib.Core.Path.{◌≡◌}
+use Prim.Native.Nat.{◌-◌, ◌≤◌}
 use lib.ListN.{length}
-use borrow.Author.Rules.{rules}
 use Rattle.slices.specs.Planes.{planes_of}
 use Rattle.slices.specs.Reads.{Blank}
-use Rattle.slices.proofs.PartsLaws.{lengths-same}
-use Rattle.slices.proofs.ReadsLaws.{blank-zeros, left-on}
-use Rattle.low_delay.specs.Job.{result, outcome, slices_from}
-use Rattle.low_delay.proofs.JobLaws.{zeros-same, slices-read, slices-refused, slices-over}
+use Rattle.low_delay.specs.Job.{slices_from}
 use Rattle.low_delay.proofs.read_slices.Given as goal
 
 abbrev pub invariant-loop-k : goal.invariant-loop-k

@@ -1,6 +1,5 @@
 -- `low_delay::unpack_low_delay` meets its contract: refused by a check or not, it ends as the job's definition says.
 use mathlib.Core.Path.{◌≡◌, refl, sym, ◌∙◌}
-use borrow.Author.Rules.{rules}
 use Rattle.slices.specs.Planes.{planes_of}
 use Rattle.slices.proofs.PartsLaws.{lengths-same}
 use Rattle.low_delay.specs.Job.{outcome, refusal_of}
@@ -18,13 +17,13 @@ returns-then-status-ne-ACCEPTED c = job-refused _ _ _ _ (told (goal.at.returns-t
 
 -- where no check refused
 none : (c : Else-status-ne-ACCEPTED) → refusal_of c.args.p (planes_of c.args.luma.now c.args.first.now c.args.second.now) ≡ 0
-none c = sym (told c.before) ∙ c.if-status-ne-ACCEPTED.false
+none c = sym (c.refusal-status.ensures _ (record { luma_long = refl; first_long = refl; second_long = refl })) ∙ c.if-status-ne-ACCEPTED.false
 
 pub read_slices-requires : goal.read_slices-requires
 read_slices-requires c =
     let checks = passed _ _ (none (goal.at.read_slices-requires c).Else-status-ne-ACCEPTED) in
     let zero = c.zero_planes.auto in
-    (checks.picture, checks.fraction, lengths-same _ _ _ _ _ _ _ zero.0 zero.1.0 zero.1.1.0 checks.lengths)
+    (checks.picture, checks.fraction, lengths-same _ _ _ _ _ _ _ zero.luma zero.first zero.second checks.lengths)
 
 pub returns : goal.returns
 returns c =

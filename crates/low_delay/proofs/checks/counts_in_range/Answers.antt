@@ -1,5 +1,4 @@
 -- `low_delay::checks::counts_in_range` meets its contract: both numbers are tested, the second where the first passes.
-use borrow.Author.Rules.{rules}
 use Rattle.low_delay.specs.Job.{counts_in_range}
 use Rattle.low_delay.proofs.checks.counts_in_range.Goals as goal
 

@@ -2,7 +2,6 @@
 use Prim.Native.Nat.{◌*◌, ◌≤◌}
 use native.Mathlib.Nat.{mul-le-mul}
 use native.Mathlib.Omega.{arith}
-use borrow.Author.Rules.{rules}
 use Rattle.low_delay.proofs.checks.entries_of.Goals as goal
 use Rattle.low_delay.proofs.checks.entries_of.Goals.{After-grid_of-g}
 

@@ -1,21 +1,19 @@
 -- `low_delay::checks::fraction_in_range` meets its contract: each number is tested, and then their order.
-use borrow.Author.Rules.{rules}
-use borrow.Author.Tests.{not-true, not-false}
 use Rattle.low_delay.specs.Job.{fraction_in_range}
 use Rattle.low_delay.proofs.checks.fraction_in_range.Goals as goal
 
 pub returns-then-not-in_range : goal.returns-then-not-in_range
 unfolding fraction_in_range
-returns-then-not-in_range c = rw (← c.in_range.ensures, not-true c.in_range.result c.if-not-in_range.true)
+returns-then-not-in_range c = rw (← c.in_range.ensures, c.if-not-in_range.true)
 
 pub returns-then-not-in_range-2 : goal.returns-then-not-in_range-2
 unfolding fraction_in_range
 returns-then-not-in_range-2 c =
     rw (
       ← c.in_range.ensures,
-      not-false c.in_range.result c.if-not-in_range.false,
+      c.if-not-in_range.false,
       ← c.in_range-2.ensures,
-      not-true c.in_range-2.result c.if-not-in_range-2.true,
+      c.if-not-in_range-2.true,
     )
 
 pub returns : goal.returns
@@ -23,7 +21,7 @@ unfolding fraction_in_range
 returns c =
     rw (
       ← c.in_range.ensures,
-      not-false c.in_range.result c.if-not-in_range.false,
+      c.if-not-in_range.false,
       ← c.in_range-2.ensures,
-      not-false c.in_range-2.result c.if-not-in_range-2.false,
+      c.if-not-in_range-2.false,
     )

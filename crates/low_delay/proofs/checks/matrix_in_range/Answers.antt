@@ -1,12 +1,6 @@
 use mathlib.Core.Path.{◌≡◌, sym, ◌∙◌}
-use mathlib.Core.Bool.{true}
-use Prim.Native.Nat.{◌-◌, ◌≤◌}
 use native.Mathlib.Omega.{arith}
-use lib.Dec.{leb}
-use lib.ListN.{get_or}
-use borrow.Author.Rules.{rules}
 use borrow.Author.Tests.{lt-leb, le-leb}
-use Rattle.base.specs.Every.{all_below}
 use Rattle.base.proofs.Booleans.{and-true}
 use Rattle.base.proofs.EveryLaws.{all_none, all_more, all-not}
 use Rattle.component.specs.Subbands.{subband_count}

@@ -1,17 +1,10 @@
 -- `low_delay::checks::matrix_in_range` meets its contract: at the loop's head every entry before k is in range.
-use mathlib.Core.Path.{◌≡◌, sym, ◌∙◌}
+use mathlib.Core.Path.{◌≡◌}
 use mathlib.Core.Bool.{true}
 use Prim.Native.Nat.{◌-◌, ◌≤◌}
-use native.Mathlib.Omega.{arith}
 use lib.Dec.{leb}
 use lib.ListN.{get_or}
-use borrow.Author.Rules.{rules}
-use borrow.Author.Tests.{lt-leb, le-leb}
 use Rattle.base.specs.Every.{all_below}
-use Rattle.base.proofs.Booleans.{and-true}
-use Rattle.base.proofs.EveryLaws.{all_none, all_more, all-not}
-use Rattle.component.specs.Subbands.{subband_count}
-use Rattle.low_delay.specs.Job.{matrix_in_range}
 use Rattle.low_delay.proofs.checks.matrix_in_range.Given as goal
 
 abbrev pub invariant-loop-k : goal.invariant-loop-k

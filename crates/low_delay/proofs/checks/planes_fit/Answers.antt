@@ -1,5 +1,4 @@
 -- `low_delay::checks::planes_fit` meets its contract: the lengths are compared in the order of the planes, and the first that differs settles it.
-use borrow.Author.Rules.{rules}
 use borrow.Author.Tests.{eq-eqb, ne_eqb}
 use Rattle.low_delay.specs.Job.{planes_fit}
 use Rattle.low_delay.proofs.checks.planes_fit.Goals as goal

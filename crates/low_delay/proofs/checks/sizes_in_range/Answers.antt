@@ -1,5 +1,4 @@
 -- `low_delay::checks::sizes_in_range` meets its contract: luma is tested, and the chroma pair where luma passes.
-use borrow.Author.Rules.{rules}
 use Rattle.low_delay.proofs.JobLaws.{sizes-both}
 use Rattle.low_delay.proofs.checks.sizes_in_range.Goals as goal
 

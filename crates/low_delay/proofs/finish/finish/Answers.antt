@@ -1,5 +1,4 @@
 -- `low_delay::finish::finish` meets its contract: the planes of an intra picture are predicted, and the answer is that of the definition.
-use borrow.Author.Rules.{rules}
 use borrow.Author.Tests.{not-true, not-false}
 use Rattle.slices.specs.Planes.{planes_of}
 use Rattle.low_delay.specs.Job.{outcome}
@@ -14,16 +13,16 @@ pub returns-then-predict_planes : goal.returns-then-predict_planes
 unfolding outcome
 returns-then-predict_planes c =
     let told = c.predict_planes.ensures in
-    rw (c.slice_start-used.ensures.0, c.slice_count-count.ensures.0, told.1 c.if-predict_planes.true)
-    (finished-intra _ _ (not-false _ c.if-not-picture.false) _ told.0 c.if-predict_planes.true)
+    rw (c.slice_start-used.ensures.0, c.slice_count-count.ensures.0, told.done c.if-predict_planes.true)
+    (finished-intra _ _ (not-false _ c.if-not-picture.false) _ told.told c.if-predict_planes.true)
 
 pub returns : goal.returns
 unfolding outcome
 returns c =
     let same = zeros-same
-    (planes_of c.predict_planes.new.first.0 c.predict_planes.new.first.1.0 c.predict_planes.new.first.1.1.0)
+    (planes_of c.predict_planes.new.luma c.predict_planes.new.first c.predict_planes.new.second)
     (planes_of c.args.luma.now c.args.first.now c.args.second.now)
-    c.predict_planes.auto.first.0 c.predict_planes.auto.first.1.0 c.predict_planes.auto.first.1.1.0
+    c.predict_planes.auto.luma c.predict_planes.auto.first c.predict_planes.auto.second
     in
     rw (c.slice_count-count.ensures.0, c.zero_planes.ensures, same)
     (finished-out _ _ (not-false _ c.if-not-picture.false) _ c.predict_planes.ensures.told c.if-predict_planes.false)

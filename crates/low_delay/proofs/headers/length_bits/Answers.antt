@@ -1,6 +1,5 @@
-use Prim.Native.Nat.{◌-◌, ◌*◌}
 use native.Mathlib.Omega.{arith}
-use Rattle.low_delay.proofs.SlicesLaws.{Doubled, doubled-none, doubled-next, doubled-few, doubled-found, length-bits-most, length-bits-fit}
+use Rattle.low_delay.proofs.SlicesLaws.{doubled-none, doubled-next, doubled-few, doubled-found, length-bits-most, length-bits-fit}
 use Rattle.low_delay.proofs.headers.length_bits.Goals as goal
 
 pub loop-power-init : goal.loop-power-init

@@ -1,7 +1,6 @@
 -- `low_delay::headers::length_bits` meets its contract: at the loop's head the power is that of n, and no smaller one is enough.
 use Prim.Native.Nat.{◌-◌, ◌*◌}
-use native.Mathlib.Omega.{arith}
-use Rattle.low_delay.proofs.SlicesLaws.{Doubled, doubled-none, doubled-next, doubled-few, doubled-found, length-bits-most, length-bits-fit}
+use Rattle.low_delay.proofs.SlicesLaws.{Doubled}
 use Rattle.low_delay.proofs.headers.length_bits.Given as goal
 
 abbrev pub invariant-loop-power : goal.invariant-loop-power

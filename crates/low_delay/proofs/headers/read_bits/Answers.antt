@@ -1,30 +1,30 @@
 use mathlib.Core.Path.{◌≡◌}
-use Prim.Native.Nat.{◌+◌, ◌-◌, ◌/◌, ◌^◌, ◌≤◌, ◌<◌}
+use Prim.Native.Nat.{◌+◌, ◌/◌, ◌^◌, ◌<◌}
 use native.Mathlib.Omega.{arith}
 use lib.Pow.{pow_mono}
-use Rattle.exp_golomb.specs.Bits.{bit_at, bits_from}
+use Rattle.exp_golomb.specs.Bits.{bit_at}
 use Rattle.lookups.proofs.WindowsLaws.{bits_small, bits-split, one_bit}
 use Rattle.low_delay.proofs.SlicesLaws.{bits_none}
 use Rattle.low_delay.proofs.headers.read_bits.Goals as goal
-use Rattle.low_delay.proofs.headers.read_bits.Goals.{After-shared_slice_known-1}
+use Rattle.low_delay.proofs.headers.read_bits.Goals.{In-loop-i}
 
 pub loop-i-init : goal.loop-i-init
 loop-i-init c = (omega arith, bits_none _ _)
 
 pub overflow_cast-byte : goal.overflow_cast-byte
-overflow_cast-byte c = omega (arith, c.shared_slice_known-1.given ((c.args.at + c.loop-i.i) / 8))
+overflow_cast-byte c = omega (arith, c.type_inv.bytes ((c.args.at + c.loop-i.i) / 8))
 
 -- the bits so far are few
-few : (c : After-shared_slice_known-1) → c.loop-i.v < 2 ^ 32
+few : (c : In-loop-i) → c.loop-i.v < 2 ^ 32
 few c =
     let i = c.loop-i.i in
     omega (arith, c.loop-i.invariant.1, bits_small c.args.bytes.now c.args.at i, pow_mono {i = i} {j = 32} (omega arith))
 
 pub overflow_mul-v : goal.overflow_mul-v
-overflow_mul-v c = omega (arith, few (goal.at.overflow_mul-v c).After-shared_slice_known-1)
+overflow_mul-v c = omega (arith, few (goal.at.overflow_mul-v c).In-loop-i)
 
 pub overflow_add-v : goal.overflow_add-v
-overflow_add-v c = omega (arith, few (goal.at.overflow_add-v c).After-shared_slice_known-1)
+overflow_add-v c = omega (arith, few (goal.at.overflow_add-v c).In-loop-i)
 
 pub loop-i-preserved : goal.loop-i-preserved
 unfolding bit_at

@@ -1,11 +1,7 @@
 -- `low_delay::headers::read_bits` meets its contract: at the loop's head v is the number of the first i bits.
 use mathlib.Core.Path.{◌≡◌}
-use Prim.Native.Nat.{◌+◌, ◌-◌, ◌/◌, ◌^◌, ◌≤◌, ◌<◌}
-use native.Mathlib.Omega.{arith}
-use lib.Pow.{pow_mono}
-use Rattle.exp_golomb.specs.Bits.{bit_at, bits_from}
-use Rattle.lookups.proofs.WindowsLaws.{bits_small, bits-split, one_bit}
-use Rattle.low_delay.proofs.SlicesLaws.{bits_none}
+use Prim.Native.Nat.{◌-◌, ◌≤◌}
+use Rattle.exp_golomb.specs.Bits.{bits_from}
 use Rattle.low_delay.proofs.headers.read_bits.Given as goal
 
 abbrev pub invariant-loop-i : goal.invariant-loop-i

@@ -1,5 +1,4 @@
 -- `low_delay::planes::predict_plane` meets its contract: level 0 lies in the plane, and its prediction is the definition's.
-use borrow.Author.Rules.{rules}
 use Rattle.low_delay.specs.Job.{predicted_plane}
 use Rattle.low_delay.proofs.JobLaws.{low-inside}
 use Rattle.low_delay.proofs.planes.predict_plane.Goals as goal

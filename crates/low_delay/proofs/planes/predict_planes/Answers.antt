@@ -1,8 +1,6 @@
 -- `low_delay::planes::predict_planes` meets its contract: the planes are predicted in their order, and the first with a value that does not fit settles it.
 use mathlib.Core.Path.{◌≡◌}
 use mathlib.Core.Bool.{false≢true}
-use borrow.Author.Rules.{rules}
-use borrow.Author.Tests.{not-true, not-false}
 use Rattle.prediction.specs.Prediction.{ended}
 use Rattle.slices.specs.Areas.{luma_grid, chroma_grid}
 use Rattle.low_delay.specs.Job.{predicted_plane}
@@ -28,7 +26,7 @@ second_is c = rw (← c.grid_of-chroma.ensures.0) c.predict_plane-3.ensures
 
 pub returns-then-not-predict_plane : goal.returns-then-not-predict_plane
 returns-then-not-predict_plane c =
-    record { told = luma-out _ _ _ _ _ (rw (not-true c.predict_plane.result c.if-not-predict_plane.true) at (luma-is (goal.at.returns-then-not-predict_plane c).After-predict_plane)); done = λ never. absurd (false≢true never) }
+    record { told = luma-out _ _ _ _ _ (rw c.if-not-predict_plane.true at (luma-is (goal.at.returns-then-not-predict_plane c).After-predict_plane)); done = λ never. absurd (false≢true never) }
 
 pub predict_plane-requires-2 : goal.predict_plane-requires-2
 predict_plane-requires-2 c =
@@ -36,8 +34,11 @@ predict_plane-requires-2 c =
 
 pub returns-then-not-predict_plane-2 : goal.returns-then-not-predict_plane-2
 returns-then-not-predict_plane-2 c =
-    record { told = first_out _ _ _ _ _ (rw (not-false c.predict_plane.result c.if-not-predict_plane.false) at (luma-is (goal.at.returns-then-not-predict_plane-2 c).After-predict_plane)) _
-          (rw (not-true c.predict_plane-2.result c.if-not-predict_plane-2.true) at (first-is (goal.at.returns-then-not-predict_plane-2 c).After-predict_plane-2)); done = λ never. absurd (false≢true never) }
+    record {
+      told = first_out _ _ _ _ _ (rw c.if-not-predict_plane.false at (luma-is (goal.at.returns-then-not-predict_plane-2 c).After-predict_plane)) _
+          (rw c.if-not-predict_plane-2.true at (first-is (goal.at.returns-then-not-predict_plane-2 c).After-predict_plane-2));
+      done = λ never. absurd (false≢true never);
+    }
 
 pub predict_plane-requires-3 : goal.predict_plane-requires-3
 predict_plane-requires-3 c =
@@ -45,5 +46,5 @@ predict_plane-requires-3 c =
 
 pub returns : goal.returns
 returns c =
-    let luma-fits = rw (not-false c.predict_plane.result c.if-not-predict_plane.false) at (luma-is (goal.at.returns c).After-predict_plane) in
-    let first_fits = rw (not-false c.predict_plane-2.result c.if-not-predict_plane-2.false) at (first-is (goal.at.returns c).After-predict_plane-2) in record { told = all_told _ _ _ _ _ luma-fits _ first_fits _ _ (second_is (goal.at.returns c).After-predict_plane-3); done = λ fits. all_done _ _ _ _ _ luma-fits _ first_fits _ _ (second_is (goal.at.returns c).After-predict_plane-3) }
+    let luma-fits = rw c.if-not-predict_plane.false at (luma-is (goal.at.returns c).After-predict_plane) in
+    let first_fits = rw c.if-not-predict_plane-2.false at (first-is (goal.at.returns c).After-predict_plane-2) in record { told = all_told _ _ _ _ _ luma-fits _ first_fits _ _ (second_is (goal.at.returns c).After-predict_plane-3); done = λ fits. all_done _ _ _ _ _ luma-fits _ first_fits _ _ (second_is (goal.at.returns c).After-predict_plane-3) }

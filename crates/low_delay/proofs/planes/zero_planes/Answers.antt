@@ -1,5 +1,4 @@
 -- `low_delay::planes::zero_planes` meets its contract: each plane is zeroed.
-use borrow.Author.Rules.{rules}
 use Rattle.slices.specs.Planes.{zeros}
 use Rattle.low_delay.proofs.planes.zero_planes.Goals as goal
 

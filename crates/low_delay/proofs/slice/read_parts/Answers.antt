@@ -1,6 +1,5 @@
 -- `low_delay::slice::read_parts` meets its contract: the second part is read where the first was, and the slice then goes on at its end.
 use native.Mathlib.Omega.{arith}
-use borrow.Author.Rules.{rules}
 use Rattle.slices.proofs.PartsLaws.{lengths-same, first-stopped, second-stopped, both_read}
 use Rattle.slices.proofs.ReadsLaws.{left-on}
 use Rattle.low_delay.proofs.slice.read_parts.Goals as goal
@@ -9,7 +8,11 @@ pub read_part-progress-requires : goal.read_part-progress-requires
 read_part-progress-requires c =
     let parts = c.requires.sound.3 in
     rw c.part_of-part.ensures
-    ((c.requires.sound.0, c.requires.sound.1, parts.indexed, record { before_end = parts.forward; small = omega (arith, parts.inside, c.requires.sound.2) }), c.requires.1)
+    (record {
+      sound = (c.requires.sound.0, c.requires.sound.1, parts.indexed, record { before_end = parts.forward; small = omega (arith, parts.inside, c.requires.sound.2) });
+      planes = c.requires.planes;
+      tables = c.requires.tables;
+    })
 
 pub returns-in_default : goal.returns-in_default
 returns-in_default c =
@@ -18,7 +21,7 @@ returns-in_default c =
 pub read_part-last-requires : goal.read_part-last-requires
 read_part-last-requires c =
     let parts = c.requires.sound.3 in
-    rw c.part_of-rest.ensures (record { sound = (c.requires.sound.0, c.requires.sound.1, parts.indexed, record { before_end = parts.inside; small = c.requires.sound.2 }); planes = (lengths-same _ _ _ _ _ _ _ c.read_part-progress.auto.luma c.read_part-progress.auto.first.0 c.read_part-progress.auto.first.1.0 c.requires.planes.0, c.read_part-progress.ensures.run_blank _ c.in-At.is); tables = c.requires.tables })
+    rw c.part_of-rest.ensures (record { sound = (c.requires.sound.0, c.requires.sound.1, parts.indexed, record { before_end = parts.inside; small = c.requires.sound.2 }); planes = (lengths-same _ _ _ _ _ _ _ c.read_part-progress.auto.luma c.read_part-progress.auto.first c.read_part-progress.auto.second c.requires.planes.0, c.read_part-progress.ensures.run_blank _ c.in-At.is); tables = c.requires.tables })
 
 pub returns-in_default-last : goal.returns-in_default-last
 returns-in_default-last c =

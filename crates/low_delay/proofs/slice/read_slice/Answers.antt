@@ -4,13 +4,12 @@ use Prim.Native.Nat.{suc, ◌-◌, ◌≤◌, ◌<◌}
 use native.Mathlib.Numerals.{add-one}
 use native.Mathlib.Omega.{arith}
 use lib.ListN.{length, take, drop}
-use borrow.Author.Rules.{rules}
 use Rattle.slices.specs.Planes.{planes_of}
 use Rattle.slices.proofs.ReadsLaws.{left-refused}
 use Rattle.low_delay.specs.Slices.{slice_start, slice_size}
 use Rattle.low_delay.proofs.SlicesLaws.{count_most, size_is, size-most, size-least, start-grows, own-length, slice-short, slice-refused, slice-read}
 use Rattle.low_delay.proofs.slice.read_slice.Goals as goal
-use Rattle.low_delay.proofs.slice.read_slice.Goals.{After-own-1, After-slice_start-next, Else-bytes-next, Start}
+use Rattle.low_delay.proofs.slice.read_slice.Goals.{After-slice_start-next, Else-bytes-next, Start}
 
 -- there are no more than 65025 slices
 slices-few : (c : Start) → c.args.of.number < 65025
@@ -25,15 +24,19 @@ ends c = rw (add-one c.args.of.number) at c.slice_start-next.ensures.0
 
 forward : (c : Else-bytes-next) → c.slice_start-start.result ≤ c.slice_start-next.result
 forward c =
-    rw (starts c.before, ends c.before) (start-grows c.args.of.parameters c.requires.sound.1.denominator_least c.args.of.number (suc c.args.of.number) (omega arith))
+    let starts = c.slice_start-start.ensures.0 in
+    let ends = rw (add-one c.args.of.number) at c.slice_start-next.ensures.0 in
+    rw (starts, ends) (start-grows c.args.of.parameters c.requires.sound.1.denominator_least c.args.of.number (suc c.args.of.number) (omega arith))
 
 -- its own bytes are as many as the definition says
-own_is : (c : After-own-1) →
+own_is : (c : Else-bytes-next) →
     length (take (c.slice_start-next.result - c.slice_start-start.result) (drop c.slice_start-start.result c.args.bytes.now))
     ≡ slice_size c.args.of.parameters c.args.of.number
 own_is c =
-    own-length _ c.args.bytes.now _ _ _ (starts c.before.before) (ends c.before.before) (planes_of c.args.luma.now c.args.first.now c.args.second.now) (omega (arith, c.if-bytes-next.false))
-    ∙ size_is _ _ _ _ (starts c.before.before) (ends c.before.before)
+    let starts = c.slice_start-start.ensures.0 in
+    let ends = rw (add-one c.args.of.number) at c.slice_start-next.ensures.0 in
+    own-length _ c.args.bytes.now _ _ _ starts ends (planes_of c.args.luma.now c.args.first.now c.args.second.now) (omega (arith, c.if-bytes-next.false))
+    ∙ size_is _ _ _ _ starts ends
 
 pub slice_start-start-requires : goal.slice_start-start-requires
 slice_start-start-requires c = (c.requires.sound.1, omega (arith, slices-few (goal.at.slice_start-start-requires c).Start))
@@ -50,13 +53,12 @@ returns-then-bytes-next c = left-refused _ _ _ _ _ _ _ (slice-short _ _ _ _ _ (s
 pub slice_bounds-own-count : goal.slice_bounds-own-count
 slice_bounds-own-count c = forward (goal.at.slice_bounds-own-count c).Else-bytes-next
 
--- TODO need
-part-own-start : tie.Need-slice-bounds-own-start
-part-own-start c = forward c
+pub slice_bounds-own-start : goal.slice_bounds-own-start
+slice_bounds-own-start c = forward (goal.at.slice_bounds-own-start c).Else-bytes-next
 
 pub read_header-requires : goal.read_header-requires
 read_header-requires c =
-    let own = own_is (goal.at.read_header-requires c).After-own-1 in
+    let own = own_is (goal.at.read_header-requires c).Else-bytes-next in
     let sound = c.requires.sound.1 in
     let p = c.args.of.parameters in
     let k = c.args.of.number in
@@ -64,7 +66,11 @@ read_header-requires c =
 
 pub read_parts-requires : goal.read_parts-requires
 read_parts-requires c =
-    ((c.requires.sound.0, c.requires.sound.2, omega (arith, c.slice_start-start.ensures.1, own_is (goal.at.read_parts-requires c).After-own-1, size-most c.args.of.parameters c.requires.sound.1.denominator_least c.args.of.number, c.requires.sound.1.numerator_most), rw c.in-Read.is at c.read_header.ensures.sound_header), c.requires.1)
+    record {
+      sound = (c.requires.sound.0, c.requires.sound.2, omega (arith, c.slice_start-start.ensures.1, own_is (goal.at.read_parts-requires c).Else-bytes-next, size-most c.args.of.parameters c.requires.sound.1.denominator_least c.args.of.number, c.requires.sound.1.numerator_most), rw c.in-Read.is at c.read_header.ensures.sound_header);
+      planes = c.requires.planes;
+      tables = c.requires.tables;
+    }
 
 pub returns-in-Refused : goal.returns-in-Refused
 returns-in-Refused c =

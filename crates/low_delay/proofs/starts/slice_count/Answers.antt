@@ -3,7 +3,6 @@ use mathlib.Core.Path.{refl}
 use Prim.Native.Nat.{◌*◌, ◌≤◌}
 use native.Mathlib.Nat.{mul-le-mul}
 use native.Mathlib.Omega.{arith}
-use borrow.Author.Rules.{rules}
 use Rattle.slices.specs.Areas.{slice_count}
 use Rattle.low_delay.proofs.starts.slice_count.Goals as goal
 use Rattle.low_delay.proofs.starts.slice_count.Goals.{Start}

@@ -3,7 +3,6 @@ use Prim.Native.Nat.{◌*◌, ◌≤◌}
 use native.Mathlib.Nat.{mul-le-mul}
 use native.Mathlib.Omega.{arith}
 use mathlib.Core.Path.{refl}
-use borrow.Author.Rules.{rules}
 use Rattle.low_delay.specs.Slices.{slice_start}
 use Rattle.low_delay.proofs.SlicesLaws.{start-most}
 use Rattle.low_delay.proofs.starts.slice_start.Goals as goal

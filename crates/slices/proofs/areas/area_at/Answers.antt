@@ -1,7 +1,6 @@
 -- `slices::areas::area_at` meets its contract: it computes the edges of the slice's rectangle, which lie in the subband.
 use Prim.Native.Nat.{◌≤◌}
 use native.Mathlib.Omega.{arith}
-use borrow.Author.Rules.{rules}
 use Rattle.codeblocks.proofs.BlocksLaws.{BlockRoom}
 use Rattle.slices.proofs.AreasLaws.{StandingRoom, standing-room, band-small, area-room, area-is}
 use Rattle.slices.proofs.areas.area_at.Goals as goal

@@ -1,5 +1,4 @@
 -- `slices::areas::grid_of` meets its contract: the sizes are padded.
-use borrow.Author.Rules.{rules}
 use Rattle.slices.proofs.AreasLaws.{grid-is, grid-whole}
 use Rattle.slices.proofs.areas.grid_of.Goals as goal
 

@@ -1,16 +1,10 @@
 -- `slices::areas::indices_fit` meets its contract: at the loop's head the index of every subband before k is in range.
-use mathlib.Core.Path.{◌≡◌, sym, ◌∙◌}
+use mathlib.Core.Path.{◌≡◌}
 use mathlib.Core.Bool.{true}
 use Prim.Native.Nat.{◌-◌, ◌≤◌}
-use native.Mathlib.Omega.{arith}
 use lib.Dec.{leb}
-use borrow.Author.Rules.{rules}
-use borrow.Author.Tests.{lt-leb, le-leb}
 use Rattle.base.specs.Every.{all_below}
-use Rattle.base.proofs.Booleans.{and-true}
-use Rattle.base.proofs.EveryLaws.{all_none, all_more, all-not}
-use Rattle.component.specs.Subbands.{subband_count}
-use Rattle.slices.specs.Areas.{subband_index, indices_fit}
+use Rattle.slices.specs.Areas.{subband_index}
 use Rattle.slices.proofs.areas.indices_fit.Given as goal
 
 abbrev pub invariant-loop-k : goal.invariant-loop-k

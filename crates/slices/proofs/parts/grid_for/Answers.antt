@@ -1,5 +1,4 @@
 -- `slices::parts::grid_for` meets its contract, for either holder.
-use borrow.Author.Rules.{rules}
 use Rattle.slices.proofs.parts.grid_for.Goals as goal
 
 pub grid_of-requires : goal.grid_of-requires

@@ -1,15 +1,11 @@
-use mathlib.Core.Path.{◌≡◌, refl, ◌∙◌}
-use Prim.Native.Nat.{◌-◌, ◌≤◌}
+use mathlib.Core.Path.{refl, ◌∙◌}
 use native.Mathlib.Nat.{mul-le-mul}
 use native.Mathlib.Omega.{arith}
-use lib.ListN.{length}
-use borrow.Author.Rules.{rules}
-use Rattle.base.specs.Walk.{walk}
 use Rattle.coefficients.specs.Reading.{goes_on}
 use Rattle.coefficients.specs.Scaling.{scale_of}
 use Rattle.slices.specs.Planes.{planes_of}
 use Rattle.slices.specs.Parts.{area_values}
-use Rattle.slices.specs.Reads.{Blank, data_of, row_of, Left}
+use Rattle.slices.specs.Reads.{data_of, row_of, Left}
 use Rattle.slices.proofs.StoresLaws.{row-few, row_inside, fits-row, fits-same}
 use Rattle.slices.proofs.ReadsLaws.{walked_none, walked_more, walked_stop, walked_all, area-stays, area-rows, span-again, left-again}
 use Rattle.slices.proofs.parts.read_area.Goals as goal
@@ -47,7 +43,7 @@ read_rows-progress-requires c =
 -- what the row left
 row-left : (c : After-read_rows-progress) →
     let args = c.args in
-    Left args.piece.span.end c.read_rows-progress.result (planes_of c.read_rows-progress.new.luma c.read_rows-progress.new.first.0 c.read_rows-progress.new.first.1.0) c.read_rows-progress.new.first.1.1.1.1.0
+    Left args.piece.span.end c.read_rows-progress.result (planes_of c.read_rows-progress.new.luma c.read_rows-progress.new.first c.read_rows-progress.new.second) c.read_rows-progress.new.run
     (area_values (data_of args.bytes.now args.piece.span) (scale_of args.piece.q) args.piece.holder (row_of args.piece.area c.loop-y.y)
     (goes_on c.loop-y.span.bit (planes_of c.loop-y.luma c.loop-y.first c.loop-y.second)))
 row-left c =
@@ -58,13 +54,13 @@ pub shape_of-luma-in_default : goal.shape_of-luma-in_default
 shape_of-luma-in_default c = c.read_rows-progress.auto.luma ∙ c.loop-y.invariant.1
 
 pub shape_of-first-in_default : goal.shape_of-first-in_default
-shape_of-first-in_default c = c.read_rows-progress.auto.first.0 ∙ c.loop-y.invariant.2
+shape_of-first-in_default c = c.read_rows-progress.auto.first ∙ c.loop-y.invariant.2
 
 pub shape_of-second-in_default : goal.shape_of-second-in_default
-shape_of-second-in_default c = c.read_rows-progress.auto.first.1.0 ∙ c.loop-y.invariant.3
+shape_of-second-in_default c = c.read_rows-progress.auto.second ∙ c.loop-y.invariant.3
 
 pub shape_of-run-in_default : goal.shape_of-run-in_default
-shape_of-run-in_default c = c.read_rows-progress.auto.first.1.1.1.1.0 ∙ c.loop-y.invariant.4
+shape_of-run-in_default c = c.read_rows-progress.auto.run ∙ c.loop-y.invariant.4
 
 pub returns-in_default : goal.returns-in_default
 returns-in_default c =
@@ -84,10 +80,10 @@ loop-y-preserved c =
     let left = row-left (goal.at.loop-y-preserved c).After-read_rows-progress in
     let told = c.in-At.is in (
       omega (arith, c.loop-y-test.true),
-      kept.0 ∙ inv.1,
-      kept.1.0 ∙ inv.2,
-      kept.1.1.0 ∙ inv.3,
-      kept.1.1.1.1.1.0 ∙ inv.4,
+      kept.luma ∙ inv.1,
+      kept.first ∙ inv.2,
+      kept.second ∙ inv.3,
+      kept.run ∙ inv.4,
       left.run_blank _ told,
       inv.6,
       inv.7,

@@ -1,18 +1,13 @@
 -- `slices::parts::read_area` meets its contract: all rows at once; or row by row, where at the loop's head the rows before row y are read.
-use mathlib.Core.Path.{◌≡◌, refl, ◌∙◌}
+use mathlib.Core.Path.{◌≡◌}
 use Prim.Native.Nat.{◌-◌, ◌≤◌}
-use native.Mathlib.Nat.{mul-le-mul}
-use native.Mathlib.Omega.{arith}
 use lib.ListN.{length}
-use borrow.Author.Rules.{rules}
 use Rattle.base.specs.Walk.{walk}
 use Rattle.coefficients.specs.Reading.{goes_on}
 use Rattle.coefficients.specs.Scaling.{scale_of}
 use Rattle.slices.specs.Planes.{planes_of}
 use Rattle.slices.specs.Parts.{area_values}
-use Rattle.slices.specs.Reads.{Blank, data_of, row_of, Left}
-use Rattle.slices.proofs.StoresLaws.{row-few, row_inside, fits-row, fits-same}
-use Rattle.slices.proofs.ReadsLaws.{walked_none, walked_more, walked_stop, walked_all, area-stays, area-rows, span-again, left-again}
+use Rattle.slices.specs.Reads.{Blank, data_of, row_of}
 use Rattle.slices.proofs.parts.read_area.Given as goal
 
 abbrev pub invariant-loop-y : goal.invariant-loop-y

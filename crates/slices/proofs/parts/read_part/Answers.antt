@@ -1,16 +1,13 @@
 use mathlib.Core.Path.{◌≡◌, refl, ◌∙◌}
-use Prim.Native.Nat.{◌-◌, ◌≤◌, ◌<◌}
+use Prim.Native.Nat.{◌≤◌, ◌<◌}
 use native.Mathlib.Omega.{arith}
-use lib.ListN.{length}
-use borrow.Author.Rules.{rules}
-use Rattle.base.specs.Walk.{walk}
 use Rattle.component.specs.Subbands.{subband_count}
 use Rattle.coefficients.specs.Quantiser.{dequantise}
 use Rattle.coefficients.specs.Reading.{goes_on}
 use Rattle.slices.specs.Planes.{planes_of}
 use Rattle.slices.specs.Areas.{slice_area, subband_index}
 use Rattle.slices.specs.Parts.{grid_for, area_values, part_values}
-use Rattle.slices.specs.Reads.{Blank, data_of, Left}
+use Rattle.slices.specs.Reads.{data_of, Left}
 use Rattle.slices.proofs.PartsLaws.{grid-counted, grid-depth, part-fits, lengths-same}
 use Rattle.slices.proofs.ReadsLaws.{walked_none, walked_more, walked_stop, walked_all, area-stays, span-again, left-again}
 use Rattle.slices.proofs.parts.read_part.Goals as goal
@@ -44,7 +41,7 @@ area_at-requires c =
 
 -- its index is in range
 index-most : (c : After-subband_index-index) → c.subband_index-index.result ≤ 115
-index-most c = rw c.subband_index-index.ensures (c.requires.sound.2.each _ (in-turn c.before))
+index-most c = rw c.subband_index-index.ensures (c.requires.sound.2.each _ (omega (arith, c.loop-k-test, c.subband_count-count.ensures)))
 
 -- its rectangle is the slice's
 area-is : (c : After-area_at) → c.area_at.result ≡ slice_area (grid_for c.args.part.picture c.args.part.holder) c.args.part.slice c.loop-k.k
@@ -61,10 +58,6 @@ overflow_cast-index c = omega (arith, index-most (goal.at.overflow_cast-index c)
 pub offset_bounds-small-index : goal.offset_bounds-small-index
 offset_bounds-small-index c = omega (arith, index-most (goal.at.offset_bounds-small-index c).After-subband_index-index)
 
--- TODO need
-index-1-read-area : tie.Need-bounds-1-read-area
-index-1-read-area c = omega (arith, index-most c.before.before.before.before.before.before)
-
 pub read_area-progress-requires : goal.read_area-progress-requires
 read_area-progress-requires c =
     let inv = c.loop-k.invariant in
@@ -80,25 +73,27 @@ read_area-progress-requires c =
 -- what the subband left
 band-left : (c : After-read_area-progress) →
     let args = c.args in
-    Left args.part.span.end c.read_area-progress.result (planes_of c.read_area-progress.new.luma c.read_area-progress.new.first.0 c.read_area-progress.new.first.1.0) c.read_area-progress.new.first.1.1.1.1.0
+    Left args.part.span.end c.read_area-progress.result (planes_of c.read_area-progress.new.luma c.read_area-progress.new.first c.read_area-progress.new.second) c.read_area-progress.new.run
     (area_values (data_of args.bytes.now args.part.span) (dequantise args.part.picture.intra (subband_index args.part.picture args.part.index c.loop-k.k)) args.part.holder
     (slice_area (grid_for args.part.picture args.part.holder) args.part.slice c.loop-k.k)
     (goes_on c.loop-k.span.bit (planes_of c.loop-k.luma c.loop-k.first c.loop-k.second)))
 band-left c =
     let inv = c.loop-k.invariant in
-    left-again _ _ _ inv.6 inv.7 _ _ _ _ _ _ _ (rw (area-is c.before.before.before.before.before.before, c.quantiser_by.ensures.0, c.subband_index-index.ensures) at c.read_area-progress.ensures)
+    let slice = c.slice_of-slice.ensures in
+    let area = rw (slice.0, slice.1, c.grid_for.ensures.0) at c.area_at.ensures in
+    left-again _ _ _ inv.6 inv.7 _ _ _ _ _ _ _ (rw (area, c.quantiser_by.ensures.0, c.subband_index-index.ensures) at c.read_area-progress.ensures)
 
 pub shape_of-luma-in_default : goal.shape_of-luma-in_default
 shape_of-luma-in_default c = c.read_area-progress.auto.luma ∙ c.loop-k.invariant.1
 
 pub shape_of-first-in_default : goal.shape_of-first-in_default
-shape_of-first-in_default c = c.read_area-progress.auto.first.0 ∙ c.loop-k.invariant.2
+shape_of-first-in_default c = c.read_area-progress.auto.first ∙ c.loop-k.invariant.2
 
 pub shape_of-second-in_default : goal.shape_of-second-in_default
-shape_of-second-in_default c = c.read_area-progress.auto.first.1.0 ∙ c.loop-k.invariant.3
+shape_of-second-in_default c = c.read_area-progress.auto.second ∙ c.loop-k.invariant.3
 
 pub shape_of-run-in_default : goal.shape_of-run-in_default
-shape_of-run-in_default c = c.read_area-progress.auto.first.1.1.1.1.0 ∙ c.loop-k.invariant.4
+shape_of-run-in_default c = c.read_area-progress.auto.run ∙ c.loop-k.invariant.4
 
 pub returns-in_default : goal.returns-in_default
 unfolding part_values
@@ -118,10 +113,10 @@ loop-k-preserved c =
     let last = band-left (goal.at.loop-k-preserved c).After-read_area-progress in
     let told = c.in-At.is in (
       omega (arith, c.loop-k-test),
-      kept.0 ∙ inv.1,
-      kept.1.0 ∙ inv.2,
-      kept.1.1.0 ∙ inv.3,
-      kept.1.1.1.1.1.0 ∙ inv.4,
+      kept.luma ∙ inv.1,
+      kept.first ∙ inv.2,
+      kept.second ∙ inv.3,
+      kept.run ∙ inv.4,
       last.run_blank _ told,
       inv.6,
       inv.7,

@@ -1,19 +1,14 @@
 -- `slices::parts::read_part` meets its contract: at the loop's head the values of the subbands before subband k are read.
-use mathlib.Core.Path.{◌≡◌, refl, ◌∙◌}
-use Prim.Native.Nat.{◌-◌, ◌≤◌, ◌<◌}
-use native.Mathlib.Omega.{arith}
+use mathlib.Core.Path.{◌≡◌}
+use Prim.Native.Nat.{◌-◌, ◌≤◌}
 use lib.ListN.{length}
-use borrow.Author.Rules.{rules}
 use Rattle.base.specs.Walk.{walk}
-use Rattle.component.specs.Subbands.{subband_count}
 use Rattle.coefficients.specs.Quantiser.{dequantise}
 use Rattle.coefficients.specs.Reading.{goes_on}
 use Rattle.slices.specs.Planes.{planes_of}
 use Rattle.slices.specs.Areas.{slice_area, subband_index}
-use Rattle.slices.specs.Parts.{grid_for, area_values, part_values}
-use Rattle.slices.specs.Reads.{Blank, data_of, Left}
-use Rattle.slices.proofs.PartsLaws.{grid-counted, grid-depth, part-fits, lengths-same}
-use Rattle.slices.proofs.ReadsLaws.{walked_none, walked_more, walked_stop, walked_all, area-stays, span-again, left-again}
+use Rattle.slices.specs.Parts.{grid_for, area_values}
+use Rattle.slices.specs.Reads.{Blank, data_of}
 use Rattle.slices.proofs.parts.read_part.Given as goal
 
 abbrev pub invariant-loop-k : goal.invariant-loop-k

@@ -1,7 +1,6 @@
 -- `slices::parts::read_rows` meets its contract: values that were read into the run are put where they belong, and the run is cleared.
 use native.Mathlib.Nat.{mul-le-mul}
 use native.Mathlib.Omega.{arith}
-use borrow.Author.Rules.{rules}
 use Rattle.slices.proofs.StoresLaws.{room_of}
 use Rattle.slices.proofs.ReadsLaws.{fresh, left-stopped, left-stored}
 use Rattle.slices.proofs.parts.read_rows.Goals as goal

@@ -1,6 +1,5 @@
 -- `slices::parts::row_of` meets its contract: a row starts where it should.
 use native.Mathlib.Omega.{arith}
-use borrow.Author.Rules.{rules}
 use Rattle.slices.proofs.parts.row_of.Goals as goal
 
 pub overflow_mul-result : goal.overflow_mul-result

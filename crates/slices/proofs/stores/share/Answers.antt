@@ -1,10 +1,10 @@
 use mathlib.Core.Path.{◌≡◌, refl, sym, ◌∙◌}
-use Prim.Native.Nat.{◌+◌, ◌-◌, ◌*◌, ◌≤◌}
+use Prim.Native.Nat.{◌+◌, ◌*◌}
 use native.Mathlib.Omega.{arith}
 use lib.IntN.{pos}
-use lib.ListN.{length, get_or, length-set}
+use lib.ListN.{get_or, length-set}
 use mir.Syntax.{w32}
-use Rattle.base.specs.Fill.{fill}
+use borrow.Author.Rules.{rules}
 use Rattle.base.proofs.FillLaws.{fill_none, fill_more}
 use Rattle.base.proofs.RangeLaws.{back}
 use Rattle.slices.proofs.stores.share.Goals as goal
@@ -19,8 +19,8 @@ loop-x-preserved c =
       omega arith,
       simp length-set inv.1,
       simp length-set inv.2,
-      rw (back w32 (get_or args.source.now (args.from + 2 * c.loop-x.x) (pos 0)) c.first-1.given, inv.3) (fill_more _ _ _ _ _ refl),
-      rw (back w32 (get_or args.source.now (args.from + 2 * c.loop-x.x + 1) (pos 0)) c.second-1.given, inv.4) (fill_more _ _ _ _ _ refl),
+      rw (back w32 (get_or args.source.now (args.from + 2 * c.loop-x.x) (pos 0)) (search rules), inv.3) (fill_more _ _ _ _ _ refl),
+      rw (back w32 (get_or args.source.now (args.from + 2 * c.loop-x.x + 1) (pos 0)) (search rules), inv.4) (fill_more _ _ _ _ _ refl),
     )
 
 pub shape_of-first : goal.shape_of-first

@@ -1,13 +1,9 @@
 -- `slices::stores::share` meets its contract: after x turns each plane is the one that came, with x entries stored.
-use mathlib.Core.Path.{◌≡◌, refl, sym, ◌∙◌}
+use mathlib.Core.Path.{◌≡◌}
 use Prim.Native.Nat.{◌+◌, ◌-◌, ◌*◌, ◌≤◌}
-use native.Mathlib.Omega.{arith}
 use lib.IntN.{pos}
-use lib.ListN.{length, get_or, length-set}
-use mir.Syntax.{w32}
+use lib.ListN.{length, get_or}
 use Rattle.base.specs.Fill.{fill}
-use Rattle.base.proofs.FillLaws.{fill_none, fill_more}
-use Rattle.base.proofs.RangeLaws.{back}
 use Rattle.slices.proofs.stores.share.Given as goal
 
 abbrev pub invariant-loop-x : goal.invariant-loop-x

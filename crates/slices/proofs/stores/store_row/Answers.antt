@@ -1,5 +1,4 @@
 -- `slices::stores::store_row` meets its contract: luma's row is copied, and a row of C1 and C2 is shared out.
-use borrow.Author.Rules.{rules}
 use Rattle.slices.proofs.StoresLaws.{luma-row, both-row, luma-room, both-room}
 use Rattle.slices.proofs.stores.store_row.Goals as goal
 

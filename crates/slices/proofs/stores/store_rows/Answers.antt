@@ -1,9 +1,7 @@
 use mathlib.Core.Path.{◌≡◌, refl, ◌∙◌}
-use Prim.Native.Nat.{◌-◌, ◌*◌, ◌≤◌, ◌<◌}
+use Prim.Native.Nat.{◌*◌, ◌≤◌, ◌<◌}
 use native.Mathlib.Omega.{arith}
 use lib.ListN.{length}
-use Rattle.slices.specs.Planes.{planes_of}
-use Rattle.slices.specs.Stores.{stored_rows}
 use Rattle.slices.proofs.StoresLaws.{rows_none, rows_more, row_room, row_small, row_inside, values-small, room-same}
 use Rattle.slices.proofs.stores.store_rows.Goals as goal
 use Rattle.slices.proofs.stores.store_rows.Goals.{In-loop-y}
@@ -45,12 +43,11 @@ loop-y-smaller c = omega (arith, in-turn (goal.at.loop-y-smaller c).In-loop-y)
 
 pub loop-y-preserved : goal.loop-y-preserved
 loop-y-preserved c =
-    let inv = c.loop-y.invariant in
-    (
+    let inv = c.loop-y.invariant in (
       omega (arith, in-turn (goal.at.loop-y-preserved c).In-loop-y),
       c.store_row.auto.luma ∙ inv.1,
-      c.store_row.auto.first.0 ∙ inv.2,
-      c.store_row.auto.first.1.0 ∙ inv.3,
+      c.store_row.auto.first ∙ inv.2,
+      c.store_row.auto.second ∙ inv.3,
       rows_more c.args.holder c.args.area _ _ c.loop-y.y _ _ inv.4 (rw c.values_of-values.ensures at c.store_row.ensures),
     )
 

@@ -1,11 +1,9 @@
 -- `slices::stores::store_rows` meets its contract: at the loop's head the rows before row y are stored.
-use mathlib.Core.Path.{◌≡◌, refl, ◌∙◌}
-use Prim.Native.Nat.{◌-◌, ◌*◌, ◌≤◌, ◌<◌}
-use native.Mathlib.Omega.{arith}
+use mathlib.Core.Path.{◌≡◌}
+use Prim.Native.Nat.{◌-◌, ◌≤◌}
 use lib.ListN.{length}
 use Rattle.slices.specs.Planes.{planes_of}
 use Rattle.slices.specs.Stores.{stored_rows}
-use Rattle.slices.proofs.StoresLaws.{rows_none, rows_more, row_room, row_small, row_inside, values-small, room-same}
 use Rattle.slices.proofs.stores.store_rows.Given as goal
 
 abbrev pub invariant-loop-y : goal.invariant-loop-y

@@ -1,6 +1,5 @@
 -- `slices::stores::values_of` meets its contract, for either holder.
 use native.Mathlib.Omega.{arith}
-use borrow.Author.Rules.{rules}
 use Rattle.slices.proofs.stores.values_of.Goals as goal
 
 pub returns-in-Luma : goal.returns-in-Luma

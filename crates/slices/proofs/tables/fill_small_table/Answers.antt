@@ -1,8 +1,6 @@
 use mathlib.Core.Path.{◌≡◌, ◌∙◌}
-use Prim.Native.Nat.{◌-◌, ◌≤◌}
 use native.Mathlib.Omega.{arith}
-use lib.ListN.{length, length-set}
-use Rattle.slices.specs.Bounds.{KnowsSmall}
+use lib.ListN.{length-set}
 use Rattle.slices.proofs.BoundsLaws.{small-none, small-more}
 use Rattle.slices.proofs.tables.fill_small_table.Goals as goal
 

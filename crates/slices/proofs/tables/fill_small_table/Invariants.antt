@@ -1,10 +1,8 @@
 -- `slices::tables::fill_small_table` meets its contract: at the loop's head the small values of every index before are in the table.
-use mathlib.Core.Path.{◌≡◌, ◌∙◌}
+use mathlib.Core.Path.{◌≡◌}
 use Prim.Native.Nat.{◌-◌, ◌≤◌}
-use native.Mathlib.Omega.{arith}
-use lib.ListN.{length, length-set}
+use lib.ListN.{length}
 use Rattle.slices.specs.Bounds.{KnowsSmall}
-use Rattle.slices.proofs.BoundsLaws.{small-none, small-more}
 use Rattle.slices.proofs.tables.fill_small_table.Given as goal
 
 abbrev pub invariant-loop-index : goal.invariant-loop-index
