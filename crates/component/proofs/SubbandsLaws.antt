@@ -1,4 +1,4 @@
--- Laws of subbands: where each orientationOf starts.
+-- Laws of subbands: where each orientation_of starts.
 -- Assumes nothing.
 use mathlib.Core.Path.{◌≡◌, refl}
 use mathlib.Core.Logic.{◌≢◌}
@@ -10,7 +10,7 @@ use Rattle.component.specs.Subbands.{Orientation, LL, HL, LH, HH, subband_count,
 use Rattle.component.specs.Sizes.{padded_size, band_size}
 use Rattle.component.proofs.SizesLaws.{size_at-mono, size_at-padded, band-size_at, size_at-double, low-most}
 
--- past LL the remainder by 3 tells the orientationOf
+-- past LL the remainder by 3 tells the orientation_of
 pub detail : (k : ℕ) → k ≢ 0 → orientation_of k ≡ detail_of (k % 3)
 unfolding orientation_of
 detail k h = rw (ne_eqb k 0 h)

@@ -1,4 +1,4 @@
--- Request Four: the luma bit length stands "in as many bits as the least n with 2^n ≥ 8·bytes − 7". `lengthBits` is that n.
+-- Request Four: the luma bit length stands "in as many bits as the least n with 2^n ≥ 8·bytes − 7". `length_bits` is that n.
 -- Assumes nothing.
 use mathlib.Core.Path.{◌≡◌, refl}
 use mathlib.Core.Bool.{Bool, true, false, cond}

@@ -1,4 +1,4 @@
--- `component::subbands::top_of` meets its contract: past LL the remainder by 3 tells the orientationOf.
+-- `component::subbands::top_of` meets its contract: past LL the remainder by 3 tells the orientation_of.
 use mathlib.Core.Path.{sym, ap, ◌∙◌}
 use Prim.Native.Nat.{◌%◌}
 use Rattle.component.specs.Subbands.{orientation_of, top_of}
