@@ -1,6 +1,7 @@
 // Document 02, request Four: values that go side by side into a run, from a part of data. "a bit past a part's end reads as 1". Values are read
 // many at once up to the last of them.
 #![tactic(auto)]
+
 ghost use Rattle.std.specs.Prelude.{◌≡◌, true, false, ◌+◌, ◌*◌, ◌≤◌, ◌<◌, min, length};
 ghost use Rattle.coefficients.specs.Reading.{goes_on};
 ghost use Rattle.coefficients.specs.Scaling.{scale_of, Bounded, small_fit};

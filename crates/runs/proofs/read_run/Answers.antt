@@ -1,13 +1,8 @@
 use mathlib.Core.Path.{◌≡◌, refl, sym, ◌∙◌}
-use Prim.Native.Nat.{◌-◌, ◌≤◌}
 use native.Mathlib.Omega.{arith}
-use lib.ListN.{length}
-use borrow.Author.Rules.{rules}
-use Rattle.coefficients.specs.Reading.{goes_on}
-use Rattle.coefficients.specs.Scaling.{scale_of}
 use Rattle.coefficients.proofs.PortionsLaws.{refused-never}
 use Rattle.coefficients.proofs.ScalingLaws.{scaled-zero}
-use Rattle.runs.proofs.RunsLaws.{side-ready, up_to, up-to-none, up-to-read, up-to-clear, up-to-past, up-to-refused}
+use Rattle.runs.proofs.RunsLaws.{side-ready, up-to-none, up-to-read, up-to-clear, up-to-past, up-to-refused}
 use Rattle.runs.proofs.read_run.Goals as goal
 
 pub loop-i-init : goal.loop-i-init
@@ -18,9 +13,12 @@ shape_of-run-then-end-bit c = c.loop-i.invariant.1
 
 pub returns-then-end-bit : goal.returns-then-end-bit
 returns-then-end-bit c =
-    let inv = c.loop-i.invariant in record { read = sym (up-to-past _ _ _ _ _ _ _ _ _ inv.3 _ c.requires.0 inv.0 (scaled-zero _ _ 0 refl) (omega (arith, c.if-end-bit.true, c.data_end-end.ensures))); inside = λ next e.
+    let inv = c.loop-i.invariant in record {
+      read = sym (up-to-past _ _ _ _ _ _ _ _ _ inv.3 _ c.requires.0 inv.0 (scaled-zero _ _ 0 refl) (omega (arith, c.if-end-bit.true, c.data_end-end.ensures)));
+      inside = λ next e.
           let there : c.loop-i.bit ≡ next = cc in
-          omega (arith, inv.2) }
+          omega (arith, inv.2);
+    }
 
 pub read_some-part-requires : goal.read_some-part-requires
 read_some-part-requires c =
@@ -46,9 +44,12 @@ shape_of-run-in_default c = c.read_some-part.auto.run ∙ c.loop-i.invariant.1
 
 pub returns-in_default : goal.returns-in_default
 returns-in_default c =
-    let told = c.in_default.is in record { read = rw told
+    let told = c.in_default.is in record {
+      read = rw told
           (sym (up-to-refused _ _ _ _ _ _ _ c.args.n _ _ _
-          (rw told at (up-to-read _ _ _ _ _ _ _ _ _ c.loop-i.invariant.3 c.args.n _ c.read_some-part.result _ c.data_end-end.ensures c.read_some-part.ensures.read)) c.read_some-part.ensures.some.1)); inside = λ next e. refused-never _ _ _ _ told e }
+          (rw told at (up-to-read _ _ _ _ _ _ _ _ _ c.loop-i.invariant.3 c.args.n _ c.read_some-part.result _ c.data_end-end.ensures c.read_some-part.ensures.read)) c.read_some-part.ensures.some.1));
+      inside = λ next e. refused-never _ _ _ _ told e;
+    }
 
 pub loop-i-smaller : goal.loop-i-smaller
 loop-i-smaller c =
@@ -69,6 +70,9 @@ shape_of-run c = c.loop-i.invariant.1
 pub returns : goal.returns
 returns c =
     let inv = c.loop-i.invariant in
-    let all : c.loop-i.i ≡ c.args.n = omega (arith, inv.0, c.loop-i-test) in record { read = sym (rw all at inv.3); inside = λ next e.
+    let all : c.loop-i.i ≡ c.args.n = omega (arith, inv.0, c.loop-i-test) in record {
+      read = sym (rw all at inv.3);
+      inside = λ next e.
           let there : c.loop-i.bit ≡ next = cc in
-          omega (arith, inv.2) }
+          omega (arith, inv.2);
+    }

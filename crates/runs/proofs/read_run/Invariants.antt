@@ -1,15 +1,11 @@
 -- `runs::read_run` meets its contract: at the loop's head the values before value i are read; a value that is refused, or data that are used up,
 -- end it.
-use mathlib.Core.Path.{◌≡◌, refl, sym, ◌∙◌}
+use mathlib.Core.Path.{◌≡◌}
 use Prim.Native.Nat.{◌-◌, ◌≤◌}
-use native.Mathlib.Omega.{arith}
 use lib.ListN.{length}
-use borrow.Author.Rules.{rules}
 use Rattle.coefficients.specs.Reading.{goes_on}
 use Rattle.coefficients.specs.Scaling.{scale_of}
-use Rattle.coefficients.proofs.PortionsLaws.{refused-never}
-use Rattle.coefficients.proofs.ScalingLaws.{scaled-zero}
-use Rattle.runs.proofs.RunsLaws.{side-ready, up_to, up-to-none, up-to-read, up-to-clear, up-to-past, up-to-refused}
+use Rattle.runs.proofs.RunsLaws.{up_to}
 use Rattle.runs.proofs.read_run.Given as goal
 
 abbrev pub invariant-loop-i : goal.invariant-loop-i

@@ -2,7 +2,6 @@
 use mathlib.Core.Path.{sym, ◌∙◌}
 use Rattle.runs.specs.Runs.{side_by_side}
 use Rattle.runs.proofs.RunsLaws.{side-index, side-inside, inside-sound, value-some}
-use borrow.Author.Rules.{rules}
 use Rattle.runs.proofs.read_some.Goals as goal
 
 pub read_window-requires : goal.read_window-requires

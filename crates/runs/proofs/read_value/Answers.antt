@@ -1,5 +1,4 @@
 -- `runs::read_value` meets its contract: a number that was read is stored; of any other the definition says what follows.
-use mathlib.Core.Logic.{⊎_elim}
 use Prim.Native.Nat.{ℕ}
 use native.Mathlib.Omega.{arith}
 use borrow.Author.Rules.{rules}
@@ -12,9 +11,12 @@ not_read-requires c =
 
 pub returns-in_default : goal.returns-in_default
 returns-in_default c =
-    record { read = rw c.not_read.ensures
+    record {
+      read = rw c.not_read.ensures
           (portion-not-read _ c.args.cursor _ (λ (k : ℕ). k) c.args.i _ c.read_signed-number.result c.read_signed-number.ensures c.requires.1.before_end
-          (λ size minus next e. ⊎_elim (λ w. let none = rw e at w in omega arith) (λ w. let none = rw e at w in omega arith) c.in_default.in_default-own.keys2)); one = rw c.not_read.ensures (not-read-some c.read_signed-number.result c.args.cursor) }
+          c.in_default.not-Read);
+      one = rw c.not_read.ensures (not-read-some c.read_signed-number.result c.args.cursor);
+    }
 
 pub store_value-progress-requires : goal.store_value-progress-requires
 store_value-progress-requires c =

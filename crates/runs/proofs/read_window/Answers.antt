@@ -5,7 +5,6 @@ use Rattle.coefficients.specs.Scaling.{scale_of}
 use Rattle.coefficients.specs.Values.{index_of}
 use Rattle.runs.specs.Runs.{side_by_side}
 use Rattle.runs.proofs.RunsLaws.{side-index, side-inside, inside-sound, value-some, portion-padded, none-padded}
-use borrow.Author.Rules.{rules}
 use Rattle.runs.proofs.read_window.Goals as goal
 use Rattle.runs.proofs.read_window.Goals.{Then-batch-eq0}
 
@@ -27,5 +26,8 @@ returns-then-batch-eq0 c =
 
 pub returns : goal.returns
 returns c =
-    record { read = portion-padded _ c.args.cursor _ (index_of (side_by_side c.args.n)) _ _ _ _ c.read_batch-batch.result _ (c.requires.ready.3.small_values c.requires.fit) c.requires.ready.2
-          c.padded_window-w.ensures c.read_batch-batch.ensures.1 _ c.lesser.ensures; some = (omega (arith, c.if-batch-eq0.false), c.read_batch-batch.ensures.0) }
+    record {
+      read = portion-padded _ c.args.cursor _ (index_of (side_by_side c.args.n)) _ _ _ _ c.read_batch-batch.result _ (c.requires.ready.3.small_values c.requires.fit) c.requires.ready.2
+          c.padded_window-w.ensures c.read_batch-batch.ensures.1 _ c.lesser.ensures;
+      some = (omega (arith, c.if-batch-eq0.false), c.read_batch-batch.ensures.0);
+    }

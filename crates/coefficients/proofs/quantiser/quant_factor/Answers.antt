@@ -1,5 +1,4 @@
 -- `coefficients::quantiser::quant_factor` meets its contract: the table has the factor of each index.
-use borrow.Author.Rules.{rules}
 use Rattle.coefficients.proofs.quantiser.quant_factor.Goals as goal
 
 pub returns : goal.returns

@@ -2,7 +2,6 @@
 use mathlib.Core.Path.{◌≡◌}
 use native.Mathlib.Omega.{arith}
 use lib.ListN.{get_or}
-use borrow.Author.Rules.{rules}
 use Rattle.coefficients.specs.Quantiser.{quant_factor, dequantise}
 use Rattle.coefficients.proofs.QuantiserLaws.{factor-below, offset-below}
 use Rattle.coefficients.proofs.quantiser.quantiser_by.Goals as goal
@@ -20,11 +19,10 @@ quant_offset-offset-requires c = (c.requires.0, known (goal.at.quant_offset-offs
 
 pub returns : goal.returns
 unfolding dequantise
-returns c =
-    (
-      rw (known (goal.at.returns c).Start, c.quant_offset-offset.ensures),
-      record {
-        factor_most = rw (known (goal.at.returns c).Start) (factor-below c.args.index c.requires.0);
-        offset_most = rw c.quant_offset-offset.ensures (offset-below c.args.intra c.args.index c.requires.0);
-      },
-    )
+returns c = (
+  rw (known (goal.at.returns c).Start, c.quant_offset-offset.ensures),
+  record {
+    factor_most = rw (known (goal.at.returns c).Start) (factor-below c.args.index c.requires.0);
+    offset_most = rw c.quant_offset-offset.ensures (offset-below c.args.intra c.args.index c.requires.0);
+  },
+)

@@ -1,5 +1,4 @@
 -- `coefficients::quantiser::small_fit` meets its contract: the test is of size 14, dequantised.
-use borrow.Author.Rules.{rules}
 use Rattle.coefficients.specs.Scaling.{small_fit}
 use Rattle.coefficients.proofs.quantiser.small_fit.Goals as goal
 

@@ -1,11 +1,9 @@
 use mathlib.Core.Path.{◌≡◌, refl, ◌∙◌}
 use mathlib.Core.Bool.{true}
-use Prim.Native.Nat.{ℕ, ◌-◌, ◌≤◌, ◌<◌}
+use Prim.Native.Nat.{ℕ}
 use native.Mathlib.Omega.{arith}
 use lib.IntN.{pos}
-use lib.ListN.{length, get_or, length-set}
-use borrow.Author.Rules.{rules}
-use borrow.Author.Tests.{not-true, not-false}
+use lib.ListN.{length-set}
 use mir.Syntax.{w32, w64}
 use mir.Val.{to_z, of_z}
 use Rattle.base.proofs.RangeLaws.{back}
@@ -17,7 +15,7 @@ use Rattle.coefficients.proofs.quantiser.small_values.Goals.{After-with_sign, El
 
 pub returns-then-not-small_fit : goal.returns-then-not-small_fit
 returns-then-not-small_fit c = λ fit.
-    let never : ◌≡◌ {A = ℕ} 0 1 = cc (not-true c.small_fit.result c.if-not-small_fit.true) in
+    let never : ◌≡◌ {A = ℕ} 0 1 = cc c.if-not-small_fit.true in
     absurd (omega arith)
 
 pub loop-k-init : goal.loop-k-init
@@ -25,7 +23,7 @@ loop-k-init c = (omega arith, refl, λ j h. absurd (omega arith))
 
 -- the small values fit where the loop is reached
 all_fit : (c : Else-not-small_fit) → small_fit c.args.q ≡ true
-all_fit c = cc (not-false c.small_fit.result c.if-not-small_fit.false)
+all_fit c = cc c.if-not-small_fit.false
 
 -- the number with its sign is the small value, and fits 64 bits
 small-value : (c : After-with_sign) →
@@ -39,13 +37,12 @@ narrow-requires c =
     rw (small-value (goal.at.narrow-requires c).After-with_sign) (small-fits c.args.q (all_fit (goal.at.narrow-requires c).Else-not-small_fit) c.loop-k.k (omega arith))
 
 pub loop-k-preserved : goal.loop-k-preserved
-loop-k-preserved c =
-    (
-      omega arith,
-      simp length-set c.loop-k.invariant.1,
-      table_more c.loop-k.small (small_value (scale_of c.args.q)) (pos 0) c.loop-k.k _ (omega (arith, c.loop-k.invariant.1))
-          (back w32 c.narrow.result c.narrow.type_inv ∙ c.narrow.ensures ∙ small-value (goal.at.loop-k-preserved c).After-with_sign) c.loop-k.invariant.2,
-    )
+loop-k-preserved c = (
+  omega arith,
+  simp length-set c.loop-k.invariant.1,
+  table_more c.loop-k.small (small_value (scale_of c.args.q)) (pos 0) c.loop-k.k _ (omega (arith, c.loop-k.invariant.1))
+      (back w32 c.narrow.result c.narrow.type_inv ∙ c.narrow.ensures ∙ small-value (goal.at.loop-k-preserved c).After-with_sign) c.loop-k.invariant.2,
+)
 
 pub returns : goal.returns
 returns c = λ fit.

@@ -1,18 +1,9 @@
 -- `coefficients::quantiser::small_values` meets its contract: after k turns the first k values are stored, and all of them fit.
-use mathlib.Core.Path.{◌≡◌, refl, ◌∙◌}
-use mathlib.Core.Bool.{true}
+use mathlib.Core.Path.{◌≡◌}
 use Prim.Native.Nat.{ℕ, ◌-◌, ◌≤◌, ◌<◌}
-use native.Mathlib.Omega.{arith}
 use lib.IntN.{pos}
-use lib.ListN.{length, get_or, length-set}
-use borrow.Author.Rules.{rules}
-use borrow.Author.Tests.{not-true, not-false}
-use mir.Syntax.{w32, w64}
-use mir.Val.{to_z, of_z}
-use Rattle.base.proofs.RangeLaws.{back}
-use Rattle.base.proofs.ListsLaws.{table_more}
-use Rattle.coefficients.specs.Scaling.{scale_of, small_fit, small_value}
-use Rattle.coefficients.proofs.ScalingLaws.{scaled-zero, small-fits}
+use lib.ListN.{length, get_or}
+use Rattle.coefficients.specs.Scaling.{scale_of, small_value}
 use Rattle.coefficients.proofs.quantiser.small_values.Given as goal
 
 abbrev pub invariant-loop-k : goal.invariant-loop-k

@@ -1,14 +1,12 @@
 -- `coefficients::values::not_read` meets its contract: its two answers are the definition's.
-use mathlib.Core.Logic.{⊎_elim}
 use native.Mathlib.Omega.{arith}
-use borrow.Author.Rules.{rules}
 use Rattle.coefficients.proofs.PortionsLaws.{not-read-short, not-read-long}
 use Rattle.coefficients.proofs.values.not_read.Goals as goal
 
 pub returns-in_default : goal.returns-in_default
 returns-in_default c =
     not-read-short c.args.number c.args.cursor
-    (λ next e. ⊎_elim (λ w. let none = rw e at w in omega arith) (λ w. let none = rw e at w in omega arith) c.in_default.in_default-own.keys2)
+    c.in_default.not-TooLong
 
 pub overflow_add-result : goal.overflow_add-result
 overflow_add-result c = omega (arith, rw c.in-TooLong.is at c.requires)

@@ -1,6 +1,5 @@
 -- `coefficients::values::read_batch` meets its contract: ones are zeros, and each other way reads what the bits begin with.
 use native.Mathlib.Omega.{arith}
-use borrow.Author.Rules.{rules}
 use Rattle.coefficients.proofs.BatchesLaws.{zeros-at-once}
 use Rattle.coefficients.proofs.values.read_batch.Goals as goal
 

@@ -1,13 +1,12 @@
-use Prim.Native.Nat.{◌-◌, ◌*◌, ◌≤◌, ◌<◌}
+use Prim.Native.Nat.{◌≤◌, ◌<◌}
 use native.Mathlib.Omega.{arith}
 use lib.IntN.{pos}
 use lib.ListN.{length, get_or}
-use borrow.Author.Rules.{rules}
 use mir.Syntax.{w32}
 use Rattle.base.proofs.RangeLaws.{back}
-use Rattle.coefficients.proofs.BatchesLaws.{first-most, Taken, taken_none, taken-code}
+use Rattle.coefficients.proofs.BatchesLaws.{first-most, taken_none, taken-code}
 use Rattle.coefficients.proofs.values.read_codes.Goals as goal
-use Rattle.coefficients.proofs.values.read_codes.Goals.{After-first_value-value, After-plane-1}
+use Rattle.coefficients.proofs.values.read_codes.Goals.{After-first_value-value}
 
 pub loop-i-init : goal.loop-i-init
 loop-i-init c = (omega arith, c.requires.1.counted, taken_none _ _ _ _ _ c.requires.1)
@@ -56,12 +55,12 @@ pub overflow_shl-w : goal.overflow_shl-w
 overflow_shl-w c = omega (arith, bits_most (goal.at.overflow_shl-w c).After-first_value-value)
 
 -- the bits taken so far, where a value is left
-few : (c : After-plane-1) → c.loop-i.bits ≤ 48
+few : (c : After-first_value-value) → c.loop-i.bits ≤ 48
 few c =
     omega (arith, c.requires.0, c.loop-i.invariant.0, c.loop-i-test.true)
 
 pub overflow_add-bits : goal.overflow_add-bits
-overflow_add-bits c = omega (arith, few (goal.at.overflow_add-bits c).After-plane-1, bits_most (goal.at.overflow_add-bits c).After-first_value-value)
+overflow_add-bits c = omega (arith, few (goal.at.overflow_add-bits c).After-first_value-value, bits_most (goal.at.overflow_add-bits c).After-first_value-value)
 
 pub overflow_add-i : goal.overflow_add-i
 overflow_add-i c = omega (arith, c.loop-i-test.true)
@@ -75,7 +74,7 @@ loop-i-preserved c =
       omega (arith, c.loop-i.invariant.0, c.loop-i.invariant.2.started, bits_most (goal.at.loop-i-preserved c).After-first_value-value),
       omega (arith, below),
       rw (back w32 (get_or c.args.small.now c.first_value-value.result (pos 0)) c.plane-1.given, c.index_at-index.ensures)
-          (taken-code _ _ _ _ _ c.requires.1 _ _ _ _ _ (few (goal.at.loop-i-preserved c).After-plane-1) c.loop-i.invariant.2 c.lookup_at-lookup.ensures _ _ c.first_value-value.ensures
+          (taken-code _ _ _ _ _ c.requires.1 _ _ _ _ _ (few (goal.at.loop-i-preserved c).After-first_value-value) c.loop-i.invariant.2 c.lookup_at-lookup.ensures _ _ c.first_value-value.ensures
           c.first_bits-taken.ensures c.if-taken-eq0.false below),
     )
 

@@ -1,12 +1,6 @@
 -- `coefficients::values::read_codes` meets its contract: each turn reads one value, and takes at most eight of the 56 bits.
-use Prim.Native.Nat.{◌-◌, ◌*◌, ◌≤◌, ◌<◌}
-use native.Mathlib.Omega.{arith}
-use lib.IntN.{pos}
-use lib.ListN.{length, get_or}
-use borrow.Author.Rules.{rules}
-use mir.Syntax.{w32}
-use Rattle.base.proofs.RangeLaws.{back}
-use Rattle.coefficients.proofs.BatchesLaws.{first-most, Taken, taken_none, taken-code}
+use Prim.Native.Nat.{◌-◌, ◌*◌, ◌≤◌}
+use Rattle.coefficients.proofs.BatchesLaws.{Taken}
 use Rattle.coefficients.proofs.values.read_codes.Given as goal
 
 abbrev pub invariant-loop-i : goal.invariant-loop-i

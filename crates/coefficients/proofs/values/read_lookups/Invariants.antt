@@ -1,14 +1,7 @@
 -- `coefficients::values::read_lookups` meets its contract: each lookup reads the values after those of the lookups before it, and takes at most
 -- eight of the 56 bits.
-use Prim.Native.Nat.{◌+◌, ◌-◌, ◌*◌, ◌≤◌, ◌<◌}
-use native.Mathlib.Omega.{arith}
-use lib.IntN.{pos}
-use lib.ListN.{length, get_or}
-use borrow.Author.Rules.{rules}
-use mir.Syntax.{w32}
-use Rattle.base.proofs.RangeLaws.{back}
-use Rattle.lookups.proofs.LookupsLaws.{lookup-count}
-use Rattle.coefficients.proofs.BatchesLaws.{Taken, taken_none, taken-lookup, taken-zeros}
+use Prim.Native.Nat.{◌-◌, ◌*◌, ◌≤◌}
+use Rattle.coefficients.proofs.BatchesLaws.{Taken}
 use Rattle.coefficients.proofs.values.read_lookups.Given as goal
 
 abbrev pub invariant-loop-k : goal.invariant-loop-k

@@ -1,14 +1,7 @@
 -- `coefficients::values::read_many` meets its contract: ones are zeros; and anything else as `read_lookups`, but each lookup goes at most nine
 -- values further, and seven of them do not pass the layout's end.
-use Prim.Native.Nat.{◌+◌, ◌-◌, ◌*◌, ◌≤◌, ◌<◌}
-use native.Mathlib.Omega.{arith}
-use lib.IntN.{pos}
-use lib.ListN.{length, get_or}
-use borrow.Author.Rules.{rules}
-use mir.Syntax.{w32}
-use Rattle.base.proofs.RangeLaws.{back}
-use Rattle.lookups.proofs.LookupsLaws.{lookup-count}
-use Rattle.coefficients.proofs.BatchesLaws.{zeros-at-once, Taken, taken_none, taken-lookup}
+use Prim.Native.Nat.{◌+◌, ◌-◌, ◌*◌, ◌≤◌}
+use Rattle.coefficients.proofs.BatchesLaws.{Taken}
 use Rattle.coefficients.proofs.values.read_many.Given as goal
 
 abbrev pub invariant-loop-k : goal.invariant-loop-k

@@ -1,12 +1,8 @@
-use mathlib.Core.Path.{◌≡◌, refl, sym, ◌∙◌}
+use mathlib.Core.Path.{refl, sym, ◌∙◌}
 use mathlib.Core.Bool.{true, false}
-use Prim.Native.Nat.{◌+◌, ◌-◌, ◌≤◌}
+use Prim.Native.Nat.{◌+◌, ◌-◌}
 use native.Mathlib.Omega.{arith}
-use lib.ListN.{length}
-use borrow.Author.Rules.{rules}
-use Rattle.coefficients.specs.Scaling.{scale_of}
-use Rattle.coefficients.specs.Values.{index_of}
-use Rattle.coefficients.proofs.PortionsLaws.{refused-never, true-never, Follows, Sofar, sofar-none, sofar-adds, portion-ends, portion-all, sound-again, ready-again}
+use Rattle.coefficients.proofs.PortionsLaws.{refused-never, true-never, sofar-none, sofar-adds, portion-ends, portion-all, sound-again, ready-again}
 use Rattle.coefficients.proofs.values.read_run.Goals as goal
 
 pub loop-i-init : goal.loop-i-init
@@ -34,8 +30,11 @@ shape_of-plane-in_default c = c.read_some-part.auto.plane ∙ c.loop-i.invariant
 
 pub returns-in_default : goal.returns-in_default
 returns-in_default c =
-    let inv = c.loop-i.invariant in record { read = portion-ends _ _ _ _ _ _ _ inv.3 c.loop-i.i (c.loop-i.i - c.args.from) _ _ inv.0 (omega (arith, inv.0)) inv.5 c.read_some-part.result _ c.read_some-part.ensures.read (omega (arith, inv.0)) false
-          (λ e. true-never (sym e)) (λ e. refl); some = (omega (arith, c.read_some-part.ensures.some.0, inv.0), λ next e f. refused-never _ _ _ _ c.in_default.is e) }
+    let inv = c.loop-i.invariant in record {
+      read = portion-ends _ _ _ _ _ _ _ inv.3 c.loop-i.i (c.loop-i.i - c.args.from) _ _ inv.0 (omega (arith, inv.0)) inv.5 c.read_some-part.result _ c.read_some-part.ensures.read (omega (arith, inv.0)) false
+          (λ e. true-never (sym e)) (λ e. refl);
+      some = (omega (arith, c.read_some-part.ensures.some.0, inv.0), λ next e f. refused-never _ _ _ _ c.in_default.is e);
+    }
 
 pub overflow_sub-result-then-part : goal.overflow_sub-result-then-part
 overflow_sub-result-then-part c = omega (arith, c.loop-i.invariant.0)
@@ -45,9 +44,12 @@ shape_of-plane-then-part c = c.read_some-part.auto.plane ∙ c.loop-i.invariant.
 
 pub returns-then-part : goal.returns-then-part
 returns-then-part c =
-    let inv = c.loop-i.invariant in record { read = rw (← c.in-At.is)
+    let inv = c.loop-i.invariant in record {
+      read = rw (← c.in-At.is)
           (portion-ends _ _ _ _ _ _ _ inv.3 c.loop-i.i (c.loop-i.i - c.args.from) _ _ inv.0 (omega (arith, inv.0)) inv.5 c.read_some-part.result _ c.read_some-part.ensures.read (omega (arith, inv.0)) true
-          (λ e. c.if-part.true) (λ e. sym c.if-part.true ∙ c.read_some-part.ensures.read.full (inv.3.stated-same ∙ e))); some = (omega (arith, c.read_some-part.ensures.some.0, inv.0), λ next e f. true-never f) }
+          (λ e. c.if-part.true) (λ e. sym c.if-part.true ∙ c.read_some-part.ensures.read.full (inv.3.stated-same ∙ e)));
+      some = (omega (arith, c.read_some-part.ensures.some.0, inv.0), λ next e f. true-never f);
+    }
 
 pub loop-i-smaller : goal.loop-i-smaller
 loop-i-smaller c =

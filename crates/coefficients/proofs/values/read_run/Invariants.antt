@@ -1,14 +1,11 @@
 -- `coefficients::values::read_run` meets its contract: at the loop's head the values before value i are read; a value that is refused, or not all
 -- there, ends it.
-use mathlib.Core.Path.{◌≡◌, refl, sym, ◌∙◌}
-use mathlib.Core.Bool.{true, false}
-use Prim.Native.Nat.{◌+◌, ◌-◌, ◌≤◌}
-use native.Mathlib.Omega.{arith}
+use mathlib.Core.Path.{◌≡◌}
+use Prim.Native.Nat.{◌-◌, ◌≤◌}
 use lib.ListN.{length}
-use borrow.Author.Rules.{rules}
 use Rattle.coefficients.specs.Scaling.{scale_of}
 use Rattle.coefficients.specs.Values.{index_of}
-use Rattle.coefficients.proofs.PortionsLaws.{refused-never, true-never, Follows, Sofar, sofar-none, sofar-adds, portion-ends, portion-all, sound-again, ready-again}
+use Rattle.coefficients.proofs.PortionsLaws.{Follows, Sofar}
 use Rattle.coefficients.proofs.values.read_run.Given as goal
 
 abbrev pub invariant-loop-i : goal.invariant-loop-i

@@ -1,7 +1,6 @@
 -- `coefficients::values::read_some` meets its contract: either way it reads values as the contract says.
 use mathlib.Core.Path.{sym, ◌∙◌}
 use native.Mathlib.Omega.{arith}
-use borrow.Author.Rules.{rules}
 use Rattle.coefficients.proofs.values.read_some.Goals as goal
 
 pub read_window-requires : goal.read_window-requires

@@ -1,5 +1,4 @@
 -- `coefficients::values::read_value` meets its contract: a number that was read is stored; of any other the definition says what follows.
-use mathlib.Core.Logic.{⊎_elim}
 use native.Mathlib.Omega.{arith}
 use borrow.Author.Rules.{rules}
 use Rattle.coefficients.specs.Values.{index_of}
@@ -12,9 +11,12 @@ not_read-requires c =
 
 pub returns-in_default : goal.returns-in_default
 returns-in_default c =
-    record { read = rw c.not_read.ensures
+    record {
+      read = rw c.not_read.ensures
           (portion-not-read _ c.args.cursor _ (index_of c.args.layout) c.args.i _ c.read_signed-number.result c.read_signed-number.ensures c.requires.2.before_end
-          (λ size minus next e. ⊎_elim (λ w. let none = rw e at w in omega arith) (λ w. let none = rw e at w in omega arith) c.in_default.in_default-own.keys2)); some = rw c.not_read.ensures (not-read-some c.read_signed-number.result c.args.cursor) }
+          c.in_default.not-Read);
+      some = rw c.not_read.ensures (not-read-some c.read_signed-number.result c.args.cursor);
+    }
 
 pub index_at-index-requires : goal.index_at-index-requires
 index_at-index-requires c =
@@ -29,5 +31,8 @@ store_value-progress-requires c =
 
 pub returns : goal.returns
 returns c =
-    record { read = portion-stored _ _ _ (index_of c.args.layout) _ _ c.read_signed-number.result c.read_signed-number.ensures c.requires.2.before_end _ _ _ _ _ c.in-Read.is
-          (rw c.index_at-index.ensures at c.store_value-progress.ensures); some = search rules }
+    record {
+      read = portion-stored _ _ _ (index_of c.args.layout) _ _ c.read_signed-number.result c.read_signed-number.ensures c.requires.2.before_end _ _ _ _ _ c.in-Read.is
+          (rw c.index_at-index.ensures at c.store_value-progress.ensures);
+      some = search rules;
+    }

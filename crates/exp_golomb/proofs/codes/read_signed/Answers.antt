@@ -1,8 +1,5 @@
 -- `exp_golomb::codes::read_signed` meets its contract: the sign bit is taken after a number that was read and is not 0.
 use mathlib.Core.Path.{sym, ◌∙◌}
-use mathlib.Core.Logic.{⊎_elim}
-use native.Mathlib.Omega.{arith}
-use borrow.Author.Rules.{rules}
 use Rattle.exp_golomb.specs.Codes.{signed}
 use Rattle.exp_golomb.proofs.CodesLaws.{sign-refused, sign-none, sign-missing, sign_read}
 use Rattle.exp_golomb.proofs.codes.read_signed.Goals as goal
@@ -10,9 +7,7 @@ use Rattle.exp_golomb.proofs.codes.read_signed.Goals as goal
 pub returns-in_default : goal.returns-in_default
 unfolding signed
 returns-in_default c =
-    rw (← c.read_unsigned-number.ensures)
-    (sym (sign-refused _ _ _ c.read_unsigned-number.result
-    (λ size minus next e. ⊎_elim (λ w. let none = rw e at w in omega arith) (λ w. let none = rw e at w in omega arith) c.in_default.in_default-own.keys2)))
+    rw (← c.read_unsigned-number.ensures) (sym (sign-refused _ _ _ c.read_unsigned-number.result c.in_default.not-Read))
 
 pub returns-then-size-eq0 : goal.returns-then-size-eq0
 unfolding signed

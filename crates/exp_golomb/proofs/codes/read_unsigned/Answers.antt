@@ -1,11 +1,10 @@
-use mathlib.Core.Path.{◌≡◌, refl, sym, ◌∙◌}
+use mathlib.Core.Path.{refl, sym, ◌∙◌}
 use Prim.Native.Nat.{◌-◌, ◌^◌, ◌≤◌, ◌<◌}
 use native.Mathlib.Nat.{lt_of_lt_of_le}
 use native.Mathlib.Omega.{arith}
-use borrow.Author.Rules.{rules}
 use lib.Dec.{lit<}
 use lib.Pow.{pow_mono}
-use Rattle.exp_golomb.specs.Codes.{code_from, unsigned}
+use Rattle.exp_golomb.specs.Codes.{unsigned}
 use Rattle.exp_golomb.proofs.BitsLaws.{taken}
 use Rattle.exp_golomb.proofs.CodesLaws.{code-missing, code-ends, code-too-long, code-cut, code-goes-on, value_grows}
 use Rattle.exp_golomb.proofs.codes.read_unsigned.Goals as goal
@@ -60,13 +59,12 @@ pub loop-bit-smaller : goal.loop-bit-smaller
 loop-bit-smaller c = omega (arith, c.if-left-eq0.false)
 
 pub loop-bit-preserved : goal.loop-bit-preserved
-loop-bit-preserved c =
-    (
-      omega (arith, c.loop-bit.invariant.0),
-      omega (arith, c.loop-bit.invariant.1),
-      value_grows _ _ c.loop-bit.left c.loop-bit.invariant.0 c.if-left-eq0.false (data-bit (goal.at.loop-bit-preserved c).In-Taken-take_bit) c.loop-bit.invariant.2,
-      sym
-          (code-goes-on _ _ _ _ _ _ _ _ _ _ (sym c.take_bit.ensures ∙ c.in-Taken.is)
-          c.if-bit-eq1.false c.if-left-eq0.false (sym c.take_bit-in-loop-bit.ensures ∙ c.in-Taken-take_bit.is))
-          ∙ c.loop-bit.invariant.3,
-    )
+loop-bit-preserved c = (
+  omega (arith, c.loop-bit.invariant.0),
+  omega (arith, c.loop-bit.invariant.1),
+  value_grows _ _ c.loop-bit.left c.loop-bit.invariant.0 c.if-left-eq0.false (data-bit (goal.at.loop-bit-preserved c).In-Taken-take_bit) c.loop-bit.invariant.2,
+  sym
+      (code-goes-on _ _ _ _ _ _ _ _ _ _ (sym c.take_bit.ensures ∙ c.in-Taken.is)
+      c.if-bit-eq1.false c.if-left-eq0.false (sym c.take_bit-in-loop-bit.ensures ∙ c.in-Taken-take_bit.is))
+      ∙ c.loop-bit.invariant.3,
+)

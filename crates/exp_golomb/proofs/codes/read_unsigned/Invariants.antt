@@ -1,14 +1,7 @@
 -- `exp_golomb::codes::read_unsigned` meets its contract: at the loop's head the rest of the code, from the value and the bit so far, is the whole code.
-use mathlib.Core.Path.{◌≡◌, refl, sym, ◌∙◌}
+use mathlib.Core.Path.{◌≡◌}
 use Prim.Native.Nat.{◌-◌, ◌^◌, ◌≤◌, ◌<◌}
-use native.Mathlib.Nat.{lt_of_lt_of_le}
-use native.Mathlib.Omega.{arith}
-use borrow.Author.Rules.{rules}
-use lib.Dec.{lit<}
-use lib.Pow.{pow_mono}
 use Rattle.exp_golomb.specs.Codes.{code_from, unsigned}
-use Rattle.exp_golomb.proofs.BitsLaws.{taken}
-use Rattle.exp_golomb.proofs.CodesLaws.{code-missing, code-ends, code-too-long, code-cut, code-goes-on, value_grows}
 use Rattle.exp_golomb.proofs.codes.read_unsigned.Given as goal
 
 abbrev pub invariant-loop-bit : goal.invariant-loop-bit

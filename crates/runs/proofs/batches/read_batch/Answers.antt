@@ -1,6 +1,5 @@
 -- `runs::batches::read_batch` meets its contract: ones are zeros, and lookups read what the bits begin with.
 use native.Mathlib.Omega.{arith}
-use borrow.Author.Rules.{rules}
 use Rattle.coefficients.proofs.BatchesLaws.{zeros-at-once}
 use Rattle.runs.proofs.batches.read_batch.Goals as goal
 

@@ -1,12 +1,11 @@
-use Prim.Native.Nat.{◌+◌, ◌-◌, ◌*◌, ◌≤◌, ◌<◌}
+use Prim.Native.Nat.{◌+◌, ◌-◌, ◌≤◌, ◌<◌}
 use native.Mathlib.Omega.{arith}
 use lib.IntN.{pos}
 use lib.ListN.{length, get_or}
-use borrow.Author.Rules.{rules}
 use mir.Syntax.{w32}
 use Rattle.base.proofs.RangeLaws.{back}
 use Rattle.lookups.proofs.LookupsLaws.{lookup-count}
-use Rattle.coefficients.proofs.BatchesLaws.{Taken, taken_none, taken-lookup, taken-zeros}
+use Rattle.coefficients.proofs.BatchesLaws.{taken_none, taken-lookup, taken-zeros}
 use Rattle.runs.specs.Runs.{side_by_side}
 use Rattle.runs.proofs.RunsLaws.{side-index, side-inside}
 use Rattle.runs.proofs.batches.read_lookups.Goals as goal
@@ -32,12 +31,11 @@ pub shape_of-run-then-n-to : goal.shape_of-run-then-n-to
 shape_of-run-then-n-to c = c.loop-k.invariant.3.same
 
 pub returns-then-n-to : goal.returns-then-n-to
-returns-then-n-to c =
-    (
-      omega (arith, c.requires.0.counted),
-      taken-zeros _ _ _ _ _ c.requires.0 _ _ _ _ c.lookup_at-lookup.result (omega (arith, c.loop-k.invariant.1, c.loop-k-test)) c.loop-k.invariant.3 c.lookup_at-lookup.ensures
-          (c.args.n - c.loop-k.i) _ (omega (arith, c.if-n-to.true)) (omega (arith, c.loop-k.invariant.2)) (omega (arith, c.loop-k.invariant.2)),
-    )
+returns-then-n-to c = (
+  omega (arith, c.requires.0.counted),
+  taken-zeros _ _ _ _ _ c.requires.0 _ _ _ _ c.lookup_at-lookup.result (omega (arith, c.loop-k.invariant.1, c.loop-k-test)) c.loop-k.invariant.3 c.lookup_at-lookup.ensures
+      (c.args.n - c.loop-k.i) _ (omega (arith, c.if-n-to.true)) (omega (arith, c.loop-k.invariant.2)) (omega (arith, c.loop-k.invariant.2)),
+)
 
 pub overflow_sub-result-then-lookup-eq0 : goal.overflow_sub-result-then-lookup-eq0
 overflow_sub-result-then-lookup-eq0 c = omega (arith, c.loop-k.invariant.3.started)

@@ -1,16 +1,8 @@
 -- `runs::batches::read_lookups` meets its contract: each lookup reads the values after those of the lookups before it, and takes at most
 -- eight of the 56 bits.
-use Prim.Native.Nat.{◌+◌, ◌-◌, ◌*◌, ◌≤◌, ◌<◌}
-use native.Mathlib.Omega.{arith}
-use lib.IntN.{pos}
-use lib.ListN.{length, get_or}
-use borrow.Author.Rules.{rules}
-use mir.Syntax.{w32}
-use Rattle.base.proofs.RangeLaws.{back}
-use Rattle.lookups.proofs.LookupsLaws.{lookup-count}
-use Rattle.coefficients.proofs.BatchesLaws.{Taken, taken_none, taken-lookup, taken-zeros}
+use Prim.Native.Nat.{◌-◌, ◌*◌, ◌≤◌}
+use Rattle.coefficients.proofs.BatchesLaws.{Taken}
 use Rattle.runs.specs.Runs.{side_by_side}
-use Rattle.runs.proofs.RunsLaws.{side-index, side-inside}
 use Rattle.runs.proofs.batches.read_lookups.Given as goal
 
 abbrev pub invariant-loop-k : goal.invariant-loop-k

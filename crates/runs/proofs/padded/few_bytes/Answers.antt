@@ -1,8 +1,7 @@
 use mathlib.Core.Path.{◌≡◌, refl, sym}
-use Prim.Native.Nat.{ℕ, ◌+◌, ◌-◌, ◌*◌, ◌/◌, ◌^◌, ◌≤◌, ◌<◌}
+use Prim.Native.Nat.{ℕ, ◌+◌, ◌-◌, ◌*◌, ◌/◌, ◌^◌, ◌<◌}
 use native.Mathlib.Omega.{arith}
 use mathlib.Core.List.{List}
-use lib.ListN.{length}
 use lib.Pow.{pow_mono}
 use Rattle.exp_golomb.specs.Bits.{bits_from}
 use Rattle.lookups.proofs.WindowsLaws.{bits_small}
@@ -30,10 +29,10 @@ pub overflow_mul-w : goal.overflow_mul-w
 overflow_mul-w c = omega (arith, few (goal.at.overflow_mul-w c).In-loop-k)
 
 pub overflow_cast-w : goal.overflow_cast-w
-overflow_cast-w c = omega (arith, c.shared_slice_known-1.given c.loop-k.k)
+overflow_cast-w c = omega (arith, c.type_inv.bytes c.loop-k.k)
 
 pub overflow_add-w : goal.overflow_add-w
-overflow_add-w c = omega (arith, few (goal.at.overflow_add-w c).In-loop-k, c.shared_slice_known-1.given c.loop-k.k)
+overflow_add-w c = omega (arith, few (goal.at.overflow_add-w c).In-loop-k, c.type_inv.bytes c.loop-k.k)
 
 pub loop-k-preserved : goal.loop-k-preserved
 loop-k-preserved c =
@@ -41,7 +40,7 @@ loop-k-preserved c =
       omega arith,
       omega arith,
       rw (c.loop-k.invariant.2, ← more)
-          (bits-more _ (8 * (c.args.at / 8)) (8 * (c.loop-k.k - c.args.at / 8)) c.loop-k.k _ (omega arith) refl (omega (arith, c.shared_slice_known-1.given c.loop-k.k))),
+          (bits-more _ (8 * (c.args.at / 8)) (8 * (c.loop-k.k - c.args.at / 8)) c.loop-k.k _ (omega arith) refl (omega (arith, c.type_inv.bytes c.loop-k.k))),
     )
 
 pub returns : goal.returns

@@ -1,13 +1,8 @@
 -- `runs::padded::few_bytes` meets its contract: at the loop's head the bytes before byte k are one number.
-use mathlib.Core.Path.{◌≡◌, refl, sym}
-use Prim.Native.Nat.{ℕ, ◌+◌, ◌-◌, ◌*◌, ◌/◌, ◌^◌, ◌≤◌, ◌<◌}
-use native.Mathlib.Omega.{arith}
-use mathlib.Core.List.{List}
+use mathlib.Core.Path.{◌≡◌}
+use Prim.Native.Nat.{◌-◌, ◌*◌, ◌≤◌}
 use lib.ListN.{length}
-use lib.Pow.{pow_mono}
 use Rattle.exp_golomb.specs.Bits.{bits_from}
-use Rattle.lookups.proofs.WindowsLaws.{bits_small}
-use Rattle.runs.proofs.PaddedLaws.{bits-more, shows-last}
 use Rattle.runs.proofs.padded.few_bytes.Given as goal
 
 abbrev pub invariant-loop-k : goal.invariant-loop-k

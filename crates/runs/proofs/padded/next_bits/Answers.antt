@@ -4,7 +4,6 @@ use Prim.Native.Nat.{◌-◌, ◌*◌}
 use native.Mathlib.Omega.{arith}
 use lib.ListN.{length}
 use Rattle.runs.proofs.PaddedLaws.{shows-window, window-aligned, shows-last}
-use borrow.Author.Rules.{rules}
 use Rattle.runs.proofs.padded.next_bits.Goals as goal
 
 pub returns-then-at-len : goal.returns-then-at-len

@@ -2,7 +2,6 @@
 use mathlib.Core.Path.{refl}
 use native.Mathlib.Omega.{arith}
 use Rattle.runs.proofs.PaddedLaws.{padded-whole, padded-ones}
-use borrow.Author.Rules.{rules}
 use Rattle.runs.proofs.padded.padded_window.Goals as goal
 
 pub returns-then-left-ge56 : goal.returns-then-left-ge56

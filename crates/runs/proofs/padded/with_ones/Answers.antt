@@ -4,7 +4,6 @@ use Prim.Native.Nat.{ℕ, suc, ◌+◌, ◌-◌, ◌*◌, ◌/◌, ◌%◌, ◌^
 use native.Mathlib.Nat.{one-mul, suc-mul, mod-eq_of_lt, mul-le-mul_right}
 use native.Mathlib.Omega.{arith}
 use lib.Pow.{pow-add, pow_mono, pow_pos, shr_lt}
-use borrow.Author.Rules.{rules}
 use Rattle.runs.proofs.padded.with_ones.Goals as goal
 
 -- after the first n bits of 64 there is room for ones
