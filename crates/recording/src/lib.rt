@@ -1,7 +1,8 @@
 // Document 01, "A recording": the text that a recording decodes to, part by part.
 #![tactic(auto)]
-mod lines;
+
 mod planes;
+mod results;
 
 ghost use Rattle.std.specs.Prelude.{◌≡◌, ◌≤◌, ◌<◌, length, take};
 ghost use Rattle.io.specs.Counts.{IsPrefixLen};
@@ -10,8 +11,8 @@ ghost use Rattle.text.specs.Put.{Put};
 ghost use Rattle.recording.specs.Output.{plane_length, sample_length, entry_status, body_lines, entry_text};
 ghost use Rattle.recording.specs.Parts.{part_count, part};
 
-use crate::lines::put_entry;
 use crate::planes::{plane_length, sample_length};
+use crate::results::put_entry;
 use base::status::{ACCEPTED, BYTES_LEFT_OVER};
 use component::parameters::{Answer, Parameters};
 use contents::table::{FILE_MOST, entry_at};
@@ -65,7 +66,8 @@ fn entry_text(
     text: &mut [u8],
 ) -> usize
     requires k_bound { k < entry_count file.now }
-    requires coefficients_len { (length coefficients.old ≡ 16384) × (length work.old ≡ 16384) × (length samples.old ≡ 16384) × (length text.old ≡ 204800) }
+    requires coefficients_len { (length coefficients.old ≡ 16384) × (length work.old ≡ 16384)
+        × (length samples.old ≡ 16384) × (length text.old ≡ 204800) }
     ensures put { Put 0 text.old (entry_text file.now k) result text.new }
     ensures upper_bound { result ≤ 204800 }
 {
@@ -96,7 +98,8 @@ fn decoded_text(
     samples: &mut [i32],
     text: &mut [u8],
 ) -> usize
-    requires coefficients_len { (length coefficients.old ≡ plane_length p) × (length work.old ≡ plane_length p) × (length samples.old ≡ sample_length p) }
+    requires coefficients_len { (length coefficients.old ≡ plane_length p) × (length work.old ≡ plane_length p)
+        × (length samples.old ≡ sample_length p) }
     requires text_len { length text.old ≡ 204800 }
     ensures put { Put 0 text.old (body_lines k p body.now) result text.new }
     ensures upper_bound { result ≤ 204800 }
@@ -108,8 +111,8 @@ fn decoded_text(
 // Document 02, "Left-over bytes are a fault": the answer for an entry whose body has so many bytes, from what decode answered. It is 12 where
 // bytes of an accepted one are left over, and the place is decode's.
 fn entry_answer(answer: Answer, size: usize) -> Answer
-    ensures status_value { result.status ≡ entry_status answer.status answer.place size }
-    ensures place_value { result.place ≡ answer.place }
+    ensures status { result.status ≡ entry_status answer.status answer.place size }
+    ensures place { result.place ≡ answer.place }
 {
     if answer.status != ACCEPTED {
         return answer;

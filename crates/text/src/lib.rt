@@ -1,5 +1,6 @@
 // Text put into bytes. Each `put` puts a piece from an index on and answers the index after it.
 #![tactic(auto)]
+
 mod numbers;
 mod words;
 

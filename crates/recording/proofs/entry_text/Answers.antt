@@ -13,11 +13,9 @@ pub overflow_add-end : goal.overflow_add-end
 overflow_add-end c =
     omega (arith, part-inside c.args.file.now c.args.k c.requires.k_bound c.entry_at-entry.result c.entry_at-entry.ensures)
 
--- TODO need
-part-decoded-text-end : tie.Need-slice-bounds-decoded-text-end
-part-decoded-text-end c =
-    let start = c.before.before.before.before.before.before.before in
-    let inside = part-inside start.args.file.now start.args.k start.requires.0 c.before.before.before.before.entry_at.result c.before.before.before.before.entry_at.ensures in
+pub slice_bounds-decoded_text-end : goal.slice_bounds-decoded_text-end
+slice_bounds-decoded_text-end c =
+    let inside = part-inside c.args.file.now c.args.k c.requires.k_bound c.entry_at-entry.result c.entry_at-entry.ensures in
     search rules
 
 pub slice_bounds-decoded_text-end-2 : goal.slice_bounds-decoded_text-end-2
@@ -43,15 +41,18 @@ decoded_text-requires c =
     let p = c.entry_at-entry.result.parameters in
     let area = c.plane_length-area.ensures in
     let count = c.sample_length-count.ensures in
-    let lengths = c.requires.coefficients_len in record { coefficients_len = (
+    let lengths = c.requires.coefficients_len in record {
+      coefficients_len = (
         length-take-le _ _ (omega (arith, area, plane-most p, lengths.0)) ∙ area,
         length-take-le _ _ (omega (arith, area, plane-most p, lengths.1)) ∙ area,
         length-take-le _ _ (omega (arith, count, sample-most p, lengths.2)) ∙ count,
-      ); text_len = lengths.3 }
+      );
+      text_len = lengths.3;
+    }
 
 pub returns : goal.returns
 returns c =
     let file = c.args.file.now in
     let put = c.decoded_text.ensures in
     let bytes = part-is-body file c.args.k c.requires.k_bound c.entry_at-entry.result c.entry_at-entry.ensures in
-    record { put = put_same _ c.args.text.now _ _ _ _ (text_of file c.args.k c.entry_at-entry.result c.entry_at-entry.ensures _ bytes) put.0; upper_bound = put.1 }
+    record { put = put_same _ c.args.text.now _ _ _ _ (text_of file c.args.k c.entry_at-entry.result c.entry_at-entry.ensures _ bytes) put.put; upper_bound = put.upper_bound }

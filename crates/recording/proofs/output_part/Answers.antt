@@ -24,5 +24,5 @@ entry_text-requires c =
 pub returns : goal.returns
 returns c =
     let put = c.entry_text.ensures in
-    let room : c.entry_text.result ≤ length c.entry_text.new.work.1.1.1.1.0 = omega (arith, put.1, c.entry_text.auto.work.1.1.1.1.0) in
-    record { text_after = put.0.1 ∙ part-entry c.args.file.now c.args.k (λ none. c.if-entries-eq0.false (c.requires.0 ∙ none)); prefix_len = (room, sym (length-take-le _ _ room)) }
+    let room : c.entry_text.result ≤ length c.entry_text.new.text = omega (arith, put.upper_bound, c.entry_text.auto.text) in
+    record { text_after = put.put.1 ∙ part-entry c.args.file.now c.args.k (λ none. c.if-entries-eq0.false (c.requires.0 ∙ none)); prefix_len = (room, sym (length-take-le _ _ room)) }

@@ -1,14 +1,9 @@
 use mathlib.Core.Path.{◌≡◌, sym, ◌∙◌}
-use mathlib.Core.Bool.{true, ◌&&◌}
-use Prim.Native.Nat.{suc, ◌+◌, ◌-◌, ◌≤◌}
+use Prim.Native.Nat.{suc}
 use native.Mathlib.Omega.{arith}
-use borrow.Author.Rules.{rules}
-use borrow.Author.Tests.{not-true, not-false}
-use lib.ListN.{get_or}
-use Rattle.base.specs.Every.{all_below}
 use Rattle.base.proofs.EveryLaws.{all_none, all_more, all-not}
 use Rattle.base.proofs.Booleans.{and-true}
-use Rattle.component.specs.Checks.{in_range, counts_in_range, codeblocks_in_range}
+use Rattle.component.specs.Checks.{counts_in_range, codeblocks_in_range}
 use Rattle.component.proofs.ChecksLaws.{depth_most}
 use Rattle.component.proofs.checks.codeblocks_in_range.Goals as goal
 
@@ -19,15 +14,14 @@ loop-level-init c =
 pub returns-then-not-counts_in_range : goal.returns-then-not-counts_in_range
 unfolding codeblocks_in_range counts_in_range
 returns-then-not-counts_in_range c =
-    sym (all-not _ (suc _) c.loop-level.level (omega arith) (sym c.counts_in_range.ensures ∙ not-true _ c.if-not-counts_in_range.true))
+    sym (all-not _ (suc _) c.loop-level.level (omega arith) (sym c.counts_in_range.ensures ∙ c.if-not-counts_in_range.true))
 
 pub loop-level-preserved : goal.loop-level-preserved
-loop-level-preserved c =
-    (
-      c.loop-level.invariant.0,
-      omega arith,
-      all_more _ c.loop-level.level ∙ and-true _ _ c.loop-level.invariant.2 (sym c.counts_in_range.ensures ∙ not-false _ c.if-not-counts_in_range.false),
-    )
+loop-level-preserved c = (
+  c.loop-level.invariant.0,
+  omega arith,
+  all_more _ c.loop-level.level ∙ and-true _ _ c.loop-level.invariant.2 (sym c.counts_in_range.ensures ∙ c.if-not-counts_in_range.false),
+)
 
 pub returns : goal.returns
 unfolding codeblocks_in_range counts_in_range

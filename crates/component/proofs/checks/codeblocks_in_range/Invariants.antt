@@ -1,16 +1,10 @@
 -- `component::checks::codeblocks_in_range` meets its contract: the levels passed are in range, and the first that is not ends the loop.
-use mathlib.Core.Path.{◌≡◌, sym, ◌∙◌}
+use mathlib.Core.Path.{◌≡◌}
 use mathlib.Core.Bool.{true, ◌&&◌}
-use Prim.Native.Nat.{suc, ◌+◌, ◌-◌, ◌≤◌}
-use native.Mathlib.Omega.{arith}
-use borrow.Author.Rules.{rules}
-use borrow.Author.Tests.{not-true, not-false}
+use Prim.Native.Nat.{◌+◌, ◌-◌, ◌≤◌}
 use lib.ListN.{get_or}
 use Rattle.base.specs.Every.{all_below}
-use Rattle.base.proofs.EveryLaws.{all_none, all_more, all-not}
-use Rattle.base.proofs.Booleans.{and-true}
-use Rattle.component.specs.Checks.{in_range, counts_in_range, codeblocks_in_range}
-use Rattle.component.proofs.ChecksLaws.{depth_most}
+use Rattle.component.specs.Checks.{in_range}
 use Rattle.component.proofs.checks.codeblocks_in_range.Given as goal
 
 abbrev pub invariant-loop-level : goal.invariant-loop-level

@@ -1,7 +1,6 @@
 -- `component::checks::codeblocks_refused` meets its contract: the counts are tested where the job unpacks.
 use mathlib.Core.Path.{ap}
 use mathlib.Core.Bool.{not}
-use borrow.Author.Rules.{rules}
 use Rattle.component.proofs.checks.codeblocks_refused.Goals as goal
 
 pub returns-then-unpacks : goal.returns-then-unpacks

@@ -1,5 +1,4 @@
 -- `component::checks::counts_in_range` meets its contract: both numbers are tested, the second where the first passes.
-use borrow.Author.Rules.{rules}
 use Rattle.component.proofs.checks.counts_in_range.Goals as goal
 
 pub returns-then-in_range : goal.returns-then-in_range

@@ -1,5 +1,4 @@
 -- `component::checks::depth_in_range` meets its contract: it makes the definition's test.
-use borrow.Author.Rules.{rules}
 use Rattle.component.specs.Checks.{depth_in_range}
 use Rattle.component.proofs.checks.depth_in_range.Goals as goal
 

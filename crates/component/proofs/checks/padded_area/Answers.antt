@@ -2,7 +2,6 @@
 use mathlib.Core.Path.{◌≡◌}
 use Prim.Native.Nat.{◌*◌}
 use native.Mathlib.Omega.{arith}
-use borrow.Author.Rules.{rules}
 use Rattle.component.specs.Checks.{area_of}
 use Rattle.component.proofs.ChecksLaws.{area-most}
 use Rattle.component.proofs.checks.padded_area.Goals as goal

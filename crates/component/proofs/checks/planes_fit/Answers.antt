@@ -1,8 +1,7 @@
 -- `component::checks::planes_fit` meets its contract: the tests are made in the definition's order, and no area is above 2^24.
 use native.Mathlib.Omega.{arith}
-use borrow.Author.Rules.{rules}
-use borrow.Author.Tests.{eq-eqb, ne_eqb, not-true, not-false}
-use Rattle.component.specs.Checks.{planes_fit, transforms}
+use borrow.Author.Tests.{eq-eqb, ne_eqb}
+use Rattle.component.specs.Checks.{planes_fit}
 use Rattle.component.proofs.ChecksLaws.{samples-most}
 use Rattle.component.proofs.checks.planes_fit.Goals as goal
 
@@ -13,7 +12,7 @@ returns-then-lengths-area c = rw (← c.padded_area-area.ensures, ne_eqb _ _ c.i
 pub returns-then-not-transforms : goal.returns-then-not-transforms
 unfolding planes_fit
 returns-then-not-transforms c =
-    rw (← c.padded_area-area.ensures, eq-eqb _ _ c.if-lengths-area.false, ← c.transforms.ensures, not-true c.transforms.result c.if-not-transforms.true)
+    rw (← c.padded_area-area.ensures, eq-eqb _ _ c.if-lengths-area.false, ← c.transforms.ensures, c.if-not-transforms.true)
 
 pub overflow_mul-result : goal.overflow_mul-result
 overflow_mul-result c =
@@ -26,7 +25,7 @@ returns-then-lengths-area-2 c =
       ← c.padded_area-area.ensures,
       eq-eqb _ _ c.if-lengths-area.false,
       ← c.transforms.ensures,
-      not-false c.transforms.result c.if-not-transforms.false,
+      c.if-not-transforms.false,
       eq-eqb _ _ c.if-lengths-area-2.true,
     )
 
@@ -37,6 +36,6 @@ returns-else-lengths-area-2 c =
       ← c.padded_area-area.ensures,
       eq-eqb _ _ c.if-lengths-area.false,
       ← c.transforms.ensures,
-      not-false c.transforms.result c.if-not-transforms.false,
+      c.if-not-transforms.false,
       ne_eqb _ _ c.if-lengths-area-2.false,
     )

@@ -1,5 +1,4 @@
 -- `component::checks::sizes_in_range` meets its contract: both numbers are tested, the second where the first passes.
-use borrow.Author.Rules.{rules}
 use Rattle.component.specs.Checks.{sizes_in_range}
 use Rattle.component.proofs.checks.sizes_in_range.Goals as goal
 

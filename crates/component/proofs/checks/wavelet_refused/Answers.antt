@@ -1,7 +1,6 @@
 -- `component::checks::wavelet_refused` meets its contract: the index is tested where the job transforms.
 use mathlib.Core.Path.{ap}
 use mathlib.Core.Bool.{not}
-use borrow.Author.Rules.{rules}
 use Rattle.component.specs.Checks.{wavelet_in_range}
 use Rattle.component.proofs.checks.wavelet_refused.Goals as goal
 

@@ -2,7 +2,6 @@
 use mathlib.Core.Path.{refl}
 use native.Mathlib.Nat.{div-le_self}
 use native.Mathlib.Omega.{arith}
-use borrow.Author.Rules.{rules}
 use Rattle.component.specs.Reciprocal.{reciprocal_of}
 use Rattle.component.proofs.partition.reciprocal_of.Goals as goal
 

@@ -1,5 +1,4 @@
 -- `component::sizes::band_size` meets its contract: a shift divides by a power of two.
-use borrow.Author.Rules.{rules}
 use Rattle.component.specs.Sizes.{band_size}
 use Rattle.component.proofs.SizesLaws.{band-size-from-1}
 use Rattle.component.proofs.sizes.band_size.Goals as goal

@@ -1,5 +1,4 @@
 -- `component::sizes::padded_height` meets its contract: sizes and depth are in range.
-use borrow.Author.Rules.{rules}
 use Rattle.component.proofs.ChecksLaws.{height_most, depth_most}
 use Rattle.component.proofs.sizes.padded_height.Goals as goal
 

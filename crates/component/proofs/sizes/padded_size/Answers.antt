@@ -1,6 +1,5 @@
 -- `component::sizes::padded_size` meets its contract: 2^depth is at most 16, so nothing wraps.
 use native.Mathlib.Omega.{arith}
-use borrow.Author.Rules.{rules}
 use Rattle.component.specs.Sizes.{padded_size}
 use Rattle.component.proofs.SizesLaws.{power, power-bounds, padded-most}
 use Rattle.component.proofs.sizes.padded_size.Goals as goal

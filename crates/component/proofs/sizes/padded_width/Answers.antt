@@ -1,5 +1,4 @@
 -- `component::sizes::padded_width` meets its contract: sizes and depth are in range.
-use borrow.Author.Rules.{rules}
 use Rattle.component.proofs.ChecksLaws.{width_most, depth_most}
 use Rattle.component.proofs.sizes.padded_width.Goals as goal
 

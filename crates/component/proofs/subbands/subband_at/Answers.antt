@@ -1,5 +1,4 @@
 -- `component::subbands::subband_at` meets its contract: each field is what a callee says of it.
-use borrow.Author.Rules.{rules}
 use Rattle.component.specs.Subbands.{subband_at, subband_level}
 use Rattle.component.proofs.subbands.subband_at.Goals as goal
 

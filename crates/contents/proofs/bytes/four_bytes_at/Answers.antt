@@ -1,6 +1,5 @@
 -- `contents::bytes::four_bytes_at` meets its contract: four bytes are two numbers of two bytes, the high one first.
 use native.Mathlib.Omega.{arith}
-use borrow.Author.Rules.{rules}
 use Rattle.contents.proofs.BytesLaws.{four_bytes}
 use Rattle.contents.proofs.bytes.four_bytes_at.Goals as goal
 

@@ -1,6 +1,5 @@
 -- `contents::bytes::two_bytes_at` meets its contract: two bytes, the high one first, are the number of two bytes.
 use native.Mathlib.Omega.{arith}
-use borrow.Author.Rules.{rules}
 use Rattle.contents.proofs.BytesLaws.{two_bytes}
 use Rattle.contents.proofs.bytes.two_bytes_at.Goals as goal
 

@@ -1,15 +1,11 @@
 use mathlib.Core.Path.{◌≡◌, sym, ap, ◌∙◌}
-use mathlib.Core.Bool.{true}
-use Prim.Native.Nat.{ℕ, ◌+◌, ◌-◌, ◌*◌, ◌≤◌}
+use Prim.Native.Nat.{ℕ}
 use native.Mathlib.Omega.{arith}
-use borrow.Author.Rules.{rules}
-use borrow.Author.Tests.{not-true, not-false}
 use lib.Dec.{eqb}
 use lib.ListN.{length}
 use Rattle.base.proofs.EveryLaws.{all_none, all_more, all-not}
 use Rattle.base.proofs.Booleans.{and-true}
-use Rattle.base.specs.Every.{all_below}
-use Rattle.contents.specs.Table.{length_at, body_start, entry_is_right}
+use Rattle.contents.specs.Table.{length_at, entry_is_right}
 use Rattle.contents.proofs.TableLaws.{first_body, next-body}
 use Rattle.contents.proofs.table.bodies_are_right.Goals as goal
 use Rattle.contents.proofs.table.bodies_are_right.Goals.{After-four_bytes_at-end}
@@ -25,7 +21,7 @@ entry_is_right-requires c = (omega arith, omega arith, c.loop-k.invariant.1)
 pub returns-then-not-entry_is_right : goal.returns-then-not-entry_is_right
 returns-then-not-entry_is_right c =
     rw (all-not (entry_is_right c.args.file.now) c.args.count c.loop-k.k (omega arith)
-    (sym c.entry_is_right.ensures ∙ not-true _ c.if-not-entry_is_right.true))
+    (sym c.entry_is_right.ensures ∙ c.if-not-entry_is_right.true))
 
 -- the number that was added is the body's length
 length-read : (c : After-four_bytes_at-end) →
@@ -36,7 +32,7 @@ length-read c = rw c.entry_offset.ensures at c.four_bytes_at-end.ensures.0
 pub loop-k-preserved : goal.loop-k-preserved
 loop-k-preserved c =
     let file = c.args.file.now in
-    let passed = sym c.entry_is_right.ensures ∙ not-false _ c.if-not-entry_is_right.false in (
+    let passed = sym c.entry_is_right.ensures ∙ c.if-not-entry_is_right.false in (
       omega arith,
       omega (arith, length-read (goal.at.loop-k-preserved c).After-four_bytes_at-end, next-body file c.loop-k.k),
       omega arith,

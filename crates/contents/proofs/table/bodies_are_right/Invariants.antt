@@ -1,18 +1,10 @@
 -- `contents::table::bodies_are_right` meets its contract: the entries passed are right, and the running end is where the next body has
 -- to start. Each length is below 2^32, and there are at most 16.
-use mathlib.Core.Path.{◌≡◌, sym, ap, ◌∙◌}
+use mathlib.Core.Path.{◌≡◌}
 use mathlib.Core.Bool.{true}
-use Prim.Native.Nat.{ℕ, ◌+◌, ◌-◌, ◌*◌, ◌≤◌}
-use native.Mathlib.Omega.{arith}
-use borrow.Author.Rules.{rules}
-use borrow.Author.Tests.{not-true, not-false}
-use lib.Dec.{eqb}
-use lib.ListN.{length}
-use Rattle.base.proofs.EveryLaws.{all_none, all_more, all-not}
-use Rattle.base.proofs.Booleans.{and-true}
+use Prim.Native.Nat.{◌+◌, ◌-◌, ◌*◌, ◌≤◌}
 use Rattle.base.specs.Every.{all_below}
-use Rattle.contents.specs.Table.{length_at, body_start, entry_is_right}
-use Rattle.contents.proofs.TableLaws.{first_body, next-body}
+use Rattle.contents.specs.Table.{body_start, entry_is_right}
 use Rattle.contents.proofs.table.bodies_are_right.Given as goal
 
 abbrev pub invariant-loop-k : goal.invariant-loop-k

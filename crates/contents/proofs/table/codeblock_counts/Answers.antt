@@ -1,5 +1,4 @@
 -- `contents::table::codeblock_counts` meets its contract: each of the five is what the callees say of its byte.
-use borrow.Author.Rules.{rules}
 use Rattle.contents.specs.Table.{codeblock_counts}
 use Rattle.contents.proofs.table.codeblock_counts.Goals as goal
 

@@ -1,6 +1,5 @@
 -- `contents::table::entry_count` meets its contract: the stated count answers where the table is right.
 use mathlib.Core.Path.{sym, ◌∙◌}
-use borrow.Author.Rules.{rules}
 use Rattle.contents.proofs.TableLaws.{count-right, count-wrong}
 use Rattle.contents.proofs.table.entry_count.Goals as goal
 

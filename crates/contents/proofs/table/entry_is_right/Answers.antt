@@ -2,7 +2,6 @@
 use mathlib.Core.Path.{◌≡◌}
 use Prim.Native.Nat.{◌+◌}
 use native.Mathlib.Omega.{arith}
-use borrow.Author.Rules.{rules}
 use lib.ListN.{get_or}
 use Rattle.contents.specs.Table.{entry_offset, offset_at}
 use Rattle.contents.proofs.TableLaws.{intra-wrong, zero-byte-wrong, offset-decides}

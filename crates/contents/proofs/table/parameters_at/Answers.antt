@@ -1,5 +1,4 @@
 -- `contents::table::parameters_at` meets its contract: each field is what a callee says of it.
-use borrow.Author.Rules.{rules}
 use Rattle.contents.specs.Table.{parameters_at}
 use Rattle.contents.proofs.table.parameters_at.Goals as goal
 

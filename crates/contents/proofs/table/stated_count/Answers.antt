@@ -1,6 +1,5 @@
 -- `contents::table::stated_count` meets its contract: the first byte is read where there is one.
 use mathlib.Core.Path.{sym}
-use borrow.Author.Rules.{rules}
 use Rattle.contents.proofs.TableLaws.{stated-none}
 use Rattle.contents.proofs.table.stated_count.Goals as goal
 

@@ -1,6 +1,5 @@
 -- `contents::table::table_is_right` meets its contract: the tests are made in the definition's order, and the first that fails answers.
 use native.Mathlib.Omega.{arith}
-use borrow.Author.Rules.{rules}
 use Rattle.contents.proofs.TableLaws.{file-too-long, too_few, too_many, table-outside, bodies-decide}
 use Rattle.contents.proofs.table.table_is_right.Goals as goal
 

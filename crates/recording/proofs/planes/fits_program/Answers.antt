@@ -1,5 +1,4 @@
 -- `recording::planes::fits_program` meets its contract: it is `component::checks::area_within` at 16,384.
-use borrow.Author.Rules.{rules}
 use Rattle.recording.specs.Output.{fits_program}
 use Rattle.recording.proofs.planes.fits_program.Goals as goal
 

@@ -1,7 +1,6 @@
 -- `recording::planes::plane_length` meets its contract: an entry that is decoded has a padded area.
 use mathlib.Core.Path.{refl, sym, ◌∙◌}
 use Rattle.recording.proofs.OutputLaws.{fits-sizes, fits-depth}
-use borrow.Author.Rules.{rules}
 use Rattle.recording.proofs.planes.plane_length.Goals as goal
 
 pub padded_area-requires : goal.padded_area-requires

@@ -3,7 +3,6 @@ use mathlib.Core.Path.{refl, sym, ◌∙◌}
 use native.Mathlib.Omega.{arith}
 use Rattle.recording.proofs.OutputLaws.{fits-sizes}
 use Rattle.component.proofs.ChecksLaws.{samples-most}
-use borrow.Author.Rules.{rules}
 use Rattle.recording.proofs.planes.sample_length.Goals as goal
 
 pub overflow_mul-result : goal.overflow_mul-result

@@ -2,7 +2,6 @@
 use mathlib.Core.Path.{ap}
 use mathlib.Core.List.{◌++◌}
 use native.Mathlib.Omega.{arith}
-use borrow.Author.Rules.{rules}
 use lib.IntN.{ℤ}
 use mir.Syntax.{w32}
 use Rattle.base.proofs.RangeLaws.{back}
@@ -16,4 +15,4 @@ returns c =
     let space = c.put_word-after.ensures in
     let put = c.put_signed.ensures in
     let same = ap (λ (z : ℤ). ascii " " ++ signed_text z) (back w32 c.args.number c.ranges.number.sfits) in
-    record { put = put_both _ _ _ _ _ _ _ _ _ same space put.0; upper_bound = omega (arith, space.0, put.1) }
+    record { put = put_both _ _ _ _ _ _ _ _ _ same space put.put; upper_bound = omega (arith, space.0, put.upper_bound) }

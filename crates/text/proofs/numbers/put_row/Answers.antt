@@ -1,7 +1,7 @@
 -- `text::numbers::put_row` meets its contract: the first number, the others with their spaces, and the newline are put one after the other.
+use borrow.Author.Rules.{rules}
 use mathlib.Core.Path.{refl, ap}
 use native.Mathlib.Omega.{arith}
-use borrow.Author.Rules.{rules}
 use lib.IntN.{pos}
 use lib.ListN.{length, get_or, length-drop}
 use mir.Syntax.{w32}
@@ -26,5 +26,5 @@ returns c =
     let first = c.put_signed-first.ensures in
     let others = c.put_spaced-last.ensures in
     let newline = c.put_word-2.ensures in
-    let read = back w32 (get_or numbers 0 (pos 0)) c.put_signed-arg-2-1.given in
-    let same = row-some numbers _ _ (omega arith) read (part-all numbers 1) in record { put = put_both _ _ _ _ _ _ _ _ _ same (put_both _ _ _ _ _ _ _ _ _ refl first.0 others.0) newline; upper_bound = omega (arith, first.1, others.1, newline.0, ap length (part-all numbers 1), length-drop 1 numbers) }
+    let read = back w32 (get_or numbers 0 (pos 0)) (search rules) in
+    let same = row-some numbers _ _ (omega arith) read (part-all numbers 1) in record { put = put_both _ _ _ _ _ _ _ _ _ same (put_both _ _ _ _ _ _ _ _ _ refl first.put others.put) newline; upper_bound = omega (arith, first.upper_bound, others.upper_bound, newline.0, ap length (part-all numbers 1), length-drop 1 numbers) }

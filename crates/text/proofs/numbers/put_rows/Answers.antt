@@ -1,12 +1,10 @@
 use mathlib.Core.Path.{◌≡◌, refl, ap, ◌∙◌}
-use Prim.Native.Nat.{ℕ, suc, ◌+◌, ◌*◌, ◌-◌, ◌≤◌}
+use Prim.Native.Nat.{ℕ, suc, ◌+◌, ◌*◌, ◌≤◌}
 use native.Mathlib.Nat.{mul-suc, mul_comm}
 use native.Mathlib.Omega.{arith}
-use borrow.Author.Rules.{rules}
 use lib.ListN.{length}
 use Rattle.base.proofs.Grids.{row_room}
 use Rattle.base.proofs.ListsLaws.{length_part}
-use Rattle.text.specs.Put.{Put}
 use Rattle.text.specs.Text.{rows_text}
 use Rattle.text.proofs.PutLaws.{put-none, put_same, put_both}
 use Rattle.text.proofs.TextLaws.{rows_more}
@@ -30,10 +28,6 @@ overflow_add-to c = omega (arith, within (goal.at.overflow_add-to c).In-loop-y)
 pub offset_bounds-numbers-from : goal.offset_bounds-numbers-from
 offset_bounds-numbers-from c = omega (arith, within (goal.at.offset_bounds-numbers-from c).In-loop-y)
 
--- TODO need
-part-put-row-end : tie.Need-slice-bounds-put-row-end
-part-put-row-end c = let room = within c.before in search rules
-
 pub put_row-end-requires : goal.put_row-end-requires
 put_row-end-requires c =
     let from = c.loop-y.from in
@@ -50,8 +44,8 @@ loop-y-preserved c =
       omega arith,
       c.put_row-end.auto.text ∙ c.loop-y.invariant.1,
       rw next (omega (arith, mul-suc c.args.width c.loop-y.y)),
-      omega (arith, put.1, size),
-      put_both _ _ _ _ _ _ _ _ _ same c.loop-y.invariant.4 put.0,
+      omega (arith, put.upper_bound, size),
+      put_both _ _ _ _ _ _ _ _ _ same c.loop-y.invariant.4 put.put,
     )
 
 pub shape_of-text : goal.shape_of-text

@@ -1,16 +1,9 @@
 -- `text::numbers::put_rows` meets its contract: after y turns the text goes on by the first y rows.
-use mathlib.Core.Path.{◌≡◌, refl, ap, ◌∙◌}
-use Prim.Native.Nat.{ℕ, suc, ◌+◌, ◌*◌, ◌-◌, ◌≤◌}
-use native.Mathlib.Nat.{mul-suc, mul_comm}
-use native.Mathlib.Omega.{arith}
-use borrow.Author.Rules.{rules}
+use mathlib.Core.Path.{◌≡◌}
+use Prim.Native.Nat.{◌+◌, ◌*◌, ◌-◌, ◌≤◌}
 use lib.ListN.{length}
-use Rattle.base.proofs.Grids.{row_room}
-use Rattle.base.proofs.ListsLaws.{length_part}
 use Rattle.text.specs.Put.{Put}
 use Rattle.text.specs.Text.{rows_text}
-use Rattle.text.proofs.PutLaws.{put-none, put_same, put_both}
-use Rattle.text.proofs.TextLaws.{rows_more}
 use Rattle.text.proofs.numbers.put_rows.Given as goal
 
 abbrev pub invariant-loop-y : goal.invariant-loop-y

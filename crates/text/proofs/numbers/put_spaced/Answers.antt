@@ -1,12 +1,11 @@
+use borrow.Author.Rules.{rules}
 use mathlib.Core.Path.{◌≡◌, refl, ap, ◌∙◌}
-use Prim.Native.Nat.{◌+◌, ◌*◌, ◌-◌, ◌≤◌}
 use native.Mathlib.Omega.{arith}
 use lib.IntN.{pos}
 use lib.ListN.{length, take, get_or}
 use lib.Seq.{take-length}
 use mir.Syntax.{w32}
 use Rattle.base.proofs.RangeLaws.{back}
-use Rattle.text.specs.Put.{Put}
 use Rattle.text.specs.Text.{spaced}
 use Rattle.text.proofs.PutLaws.{put-none, put_same, put_both}
 use Rattle.text.proofs.TextLaws.{spaced-more}
@@ -21,12 +20,12 @@ loop-x-preserved c =
     let numbers = c.args.numbers.now in
     let number = get_or numbers c.loop-x.x (pos 0) in
     let put = c.put_next-end.ensures in
-    let read = back w32 number c.put_next-arg-in-loop-x-1.given in
+    let read = back w32 number (search rules) in
     let same = spaced-more numbers c.loop-x.x _ (omega arith) read in (
       omega arith,
       c.put_next-end.auto.text ∙ c.loop-x.invariant.1,
-      omega (arith, put.1),
-      put_both _ _ _ _ _ _ _ _ _ same c.loop-x.invariant.3 put.0,
+      omega (arith, put.upper_bound),
+      put_both _ _ _ _ _ _ _ _ _ same c.loop-x.invariant.3 put.put,
     )
 
 pub shape_of-text : goal.shape_of-text

@@ -1,11 +1,8 @@
 -- `text::words::put_word` meets its contract: after i turns the text goes on by the first i bytes of the word.
-use mathlib.Core.Path.{◌≡◌, refl, sym, ◌∙◌}
-use mathlib.Core.List.{◌++◌, append-nil}
-use Prim.Native.Nat.{◌+◌, ◌-◌, ◌≤◌, ◌<◌}
-use native.Mathlib.Omega.{arith}
-use lib.ListN.{length, take, length-set}
-use lib.Seq.{take-length}
-use Rattle.text.proofs.PutLaws.{put_byte}
+use mathlib.Core.Path.{◌≡◌}
+use mathlib.Core.List.{◌++◌}
+use Prim.Native.Nat.{◌+◌, ◌-◌, ◌≤◌}
+use lib.ListN.{length, take}
 use Rattle.text.proofs.words.put_word.Given as goal
 
 abbrev pub invariant-loop-i : goal.invariant-loop-i

@@ -1,11 +1,10 @@
--- `recording::lines::put_entry` meets its contract: the heading is put, then what the answer asks for.
+-- `recording::results::put_entry` meets its contract: the heading is put, then what the answer asks for.
 use mathlib.Core.Path.{refl}
 use native.Mathlib.Omega.{arith}
 use Rattle.text.proofs.PutLaws.{put_both}
 use borrow.Author.Tests.{eq-eqb, ne_eqb}
 use Rattle.recording.specs.Output.{entry_lines}
-use borrow.Author.Rules.{rules}
-use Rattle.recording.proofs.lines.put_entry.Goals as goal
+use Rattle.recording.proofs.results.put_entry.Goals as goal
 
 pub returns-then-answer-ne0 : goal.returns-then-answer-ne0
 unfolding entry_lines
@@ -14,7 +13,7 @@ returns-then-answer-ne0 c =
     let head = c.put_heading-at.ensures in
     let rest = c.put_refusal.ensures in
     rw (ne_eqb c.args.answer.status 0 c.if-answer-ne0.true)
-    (record { put = put_both _ before _ _ _ _ _ _ _ refl head.0 rest.0; upper_bound = omega (arith, head.1, rest.1) })
+    (record { put = put_both _ before _ _ _ _ _ _ _ refl head.put rest.put; upper_bound = omega (arith, head.upper_bound, rest.upper_bound) })
 
 pub put_picture-requires : goal.put_picture-requires
 put_picture-requires c =
@@ -30,4 +29,4 @@ returns c =
     let fine = c.if-answer-ne0.false in
     let room = c.requires.samples_len fine in
     rw (eq-eqb c.args.answer.status 0 fine)
-    (record { put = put_both _ before _ _ _ _ _ _ _ refl head.0 rest.0; upper_bound = omega (arith, head.1, rest.1, room.1, room.2) })
+    (record { put = put_both _ before _ _ _ _ _ _ _ refl head.put rest.put; upper_bound = omega (arith, head.upper_bound, rest.upper_bound, room.1, room.2) })

@@ -1,12 +1,11 @@
--- `recording::lines::put_heading` meets its contract: its pieces are put one after the other.
+-- `recording::results::put_heading` meets its contract: its pieces are put one after the other.
 use mathlib.Core.List.{◌++◌}
 use mathlib.Core.Path.{refl}
 use native.Mathlib.Omega.{arith}
 use Rattle.text.proofs.PutLaws.{put_both}
 use Rattle.text.specs.Text.{ascii, decimal}
 use Rattle.recording.specs.Output.{heading}
-use borrow.Author.Rules.{rules}
-use Rattle.recording.proofs.lines.put_heading.Goals as goal
+use Rattle.recording.proofs.results.put_heading.Goals as goal
 
 pub returns : goal.returns
 unfolding heading ascii

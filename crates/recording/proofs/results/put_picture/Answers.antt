@@ -1,14 +1,13 @@
--- `recording::lines::put_picture` meets its contract: the sizes are put, then the rows.
+-- `recording::results::put_picture` meets its contract: the sizes are put, then the rows.
 use mathlib.Core.Path.{refl}
 use native.Mathlib.Omega.{arith}
 use Rattle.text.proofs.PutLaws.{put_both}
 use Rattle.recording.specs.Output.{picture_text}
-use borrow.Author.Rules.{rules}
-use Rattle.recording.proofs.lines.put_picture.Goals as goal
+use Rattle.recording.proofs.results.put_picture.Goals as goal
 
 pub returns : goal.returns
 unfolding picture_text
 returns c =
     let size = c.put_size-first.ensures in
     let numbers = c.put_rows.ensures in
-    record { put = put_both _ _ _ _ _ _ _ _ _ refl size.0 numbers.0; upper_bound = omega (arith, size.1, numbers.1) }
+    record { put = put_both _ _ _ _ _ _ _ _ _ refl size.put numbers.put; upper_bound = omega (arith, size.upper_bound, numbers.upper_bound) }
