@@ -1,5 +1,6 @@
 // Document 01, "One subband": codeblocks, with their flags.
 #![tactic(auto)]
+
 ghost use Rattle.std.specs.Prelude.{◌≡◌, cond, ◌+◌, ◌*◌, ◌≤◌, ◌<◌};
 ghost use Rattle.component.specs.Reciprocal.{reciprocal_of};
 ghost use Rattle.coefficients.specs.Scaling.{scale_of};

@@ -1,5 +1,6 @@
 // Document 01, "What the decoder covers": the decode job, from bytes to samples.
 #![tactic(auto)]
+
 ghost use Rattle.std.specs.Prelude.{◌≡◌};
 ghost use Rattle.decode.specs.Job.{outcome, decoded};
 

@@ -1,5 +1,5 @@
 -- The laws of `lift`, over any taps, scale and even length: a step reads only elements that it does not change, so the exchanged step undoes it;
--- of `tap_sum`, tap by tap; and of `rounding`, as the code makes it, and how small it is.
+-- of `tapSum`, tap by tap; and of `rounding`, as the code makes it, and how small it is.
 -- Assumes nothing.
 use mathlib.Core.Path.{◌≡◌, refl, sym, ap, ◌∙◌, subst}
 use mathlib.Core.Bool.{Bool, true, false, not, cond}

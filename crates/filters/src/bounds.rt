@@ -52,6 +52,7 @@ pub fn bounds_after(step: LiftingStep, bounds: Bounds) -> Bounds
 
 // How large the numbers that a step changes may be after it, from how large those that it reads and those that it changes may be before: 2^31
 // where they, or its sums, may leave 32 bits, since the new numbers are tested then.
+#[tactic(auto, unfolding(crate::specs::Bounds::target_after, crate::specs::Bounds::stays_small, crate::specs::Bounds::sum_most, crate::specs::Bounds::new_most))]
 fn target_after(step: LiftingStep, source: u64, target: u64) -> u64
     requires { WellFormedStep step × (source ≤ 2 ^ 32) × (target ≤ 2 ^ 32) }
     ensures { result ≡ target_after step source target }

@@ -1,5 +1,6 @@
 // Document 01, "One subband": intra DC prediction of a band, in raster order from values already predicted.
 #![tactic(auto)]
+
 ghost use Rattle.std.specs.Prelude.{◌≡◌, true, ◌+◌, ◌*◌, ◌^◌, ◌≤◌, ◌<◌, nat_abs, length};
 ghost use Rattle.prediction.specs.Prediction.{ended, mean_of, predictor, predicted_value, predicted_row, prediction};
 

@@ -1,5 +1,6 @@
 // Document 01, "One subband": the unpack job, from bytes to coefficients.
 #![tactic(auto)]
+
 pub mod data;
 pub mod header;
 

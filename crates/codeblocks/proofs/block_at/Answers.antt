@@ -1,6 +1,5 @@
 -- `codeblocks::block_at` meets its contract: it computes the codeblock's edges, which lie in the subband.
 use native.Mathlib.Omega.{arith}
-use borrow.Author.Rules.{rules}
 use Rattle.codeblocks.proofs.BlocksLaws.{BlockEdges, edges, BlockRoom, room, block-at-is}
 use Rattle.codeblocks.proofs.block_at.Goals as goal
 use Rattle.codeblocks.proofs.block_at.Goals.{After-part_start-bottom, Start}

@@ -1,6 +1,5 @@
 -- `codeblocks::block_before` meets its contract: before the first codeblock stands one with no values, and before any other the one before it.
 use mathlib.Core.Path.{refl, ◌∙◌}
-use borrow.Author.Rules.{rules}
 use Rattle.codeblocks.specs.Blocks.{block_before}
 use Rattle.codeblocks.proofs.BlocksLaws.{block-before-some}
 use Rattle.codeblocks.proofs.block_before.Goals as goal

@@ -1,7 +1,6 @@
 -- `codeblocks::next_block` meets its contract: in a row of codeblocks it goes on from the one before, and at a row's start it computes the
 -- codeblock anew.
 use native.Mathlib.Omega.{arith}
-use borrow.Author.Rules.{rules}
 use Rattle.component.proofs.ReciprocalLaws.{reciprocal-small}
 use Rattle.codeblocks.proofs.BlocksLaws.{column-before, BesideBefore, beside}
 use Rattle.codeblocks.proofs.next_block.Goals as goal

@@ -1,22 +1,19 @@
 use mathlib.Core.Path.{◌≡◌, refl, ap, ◌∙◌}
-use mathlib.Core.Logic.{inl, inr}
 use mathlib.Core.Bool.{false}
-use Prim.Native.Nat.{ℕ, ◌-◌, ◌≤◌, ◌<◌}
+use Prim.Native.Nat.{ℕ, ◌≤◌, ◌<◌}
 use native.Mathlib.Omega.{arith}
-use borrow.Author.Rules.{rules}
-use borrow.Author.Tests.{leb-true, leb-false}
 use lib.ListN.{length}
 use Rattle.coefficients.specs.Scaling.{scale_of}
 use Rattle.coefficients.specs.declared.reading.Progress.TheVariants.{At}
 use Rattle.rectangles.specs.Areas.{size_of}
 use Rattle.coefficients.proofs.PortionsLaws.{Follows, sound-again}
-use Rattle.codeblocks.specs.Blocks.{count_of, block_before, area_before}
+use Rattle.codeblocks.specs.Blocks.{count_of, area_before}
 use Rattle.codeblocks.specs.declared.PlacedCodeblock.{PlacedCodeblock}
 use Rattle.codeblocks.proofs.BlocksLaws.{few-blocks, placed_same, area-before-inside, block-before-next, block-small}
 use Rattle.codeblocks.proofs.RestLaws.{at_value}
 use Rattle.codeblocks.proofs.PortionsLaws.{Sofar, sofar-first, sofar-values, sofar-flag, ends-refused, ends-short, ends-over}
 use Rattle.codeblocks.proofs.read_codeblocks.Goals as goal
-use Rattle.codeblocks.proofs.read_codeblocks.Goals.{After-read_values-part, At-loop-bit}
+use Rattle.codeblocks.proofs.read_codeblocks.Goals.{After-read_values-part, At-loop-bit, then-part-via-then-part, then-part-via-else-part+then-count-position}
 
 pub overflow_mul-count : goal.overflow_mul-count
 overflow_mul-count c = omega (arith, few-blocks _ c.requires.0.counted)
@@ -77,10 +74,10 @@ pub returns-then-part : goal.returns-then-part
 returns-then-part c =
     let on = c.in-At.is in
     elim c.then-part.branch [
-      | inl short ↦
-          rw short.true (ends-short _ _ _ _ _ _ _ _ _ (read (goal.at.returns-then-part c).After-read_values-part) _ on c.loop-bit.next _ c.loop-bit.invariant.1 short.true c.read_values-part.ensures.full (rw on at (c.read_values-part.ensures.close_to_end short.true)))
-      | inr (full, known, all) ↦
-          rw full.false (ends-over _ _ _ _ _ _ _ _ _ (read (goal.at.returns-then-part c).After-read_values-part) _ on (leb-true _ _ all.true) (begun-read (goal.at.returns-then-part c).After-read_values-part _ on full.false))
+      | then-part-via-then-part short ↦
+          rw short.if-part.true (ends-short _ _ _ _ _ _ _ _ _ (read (goal.at.returns-then-part c).After-read_values-part) _ on c.loop-bit.next _ c.loop-bit.invariant.1 short.if-part.true c.read_values-part.ensures.full (rw on at (c.read_values-part.ensures.close_to_end short.if-part.true)))
+      | then-part-via-else-part+then-count-position full ↦
+          rw full.if-part.false (ends-over _ _ _ _ _ _ _ _ _ (read (goal.at.returns-then-part c).After-read_values-part) _ on full.if-count-position.true (begun-read (goal.at.returns-then-part c).After-read_values-part _ on full.if-part.false))
     ]
 
 pub shape_of-plane-then-flag : goal.shape_of-plane-then-flag
@@ -88,30 +85,28 @@ shape_of-plane-then-flag c = kept (goal.at.shape_of-plane-then-flag c).After-rea
 
 pub returns-then-flag : goal.returns-then-flag
 returns-then-flag c =
-    let given = c.progress-1.given in
-    ends-short _ _ _ _ _ _ _ _ _ (read (goal.at.returns-then-flag c).After-read_values-part) _ given.1 _ _ (same-data (goal.at.returns-then-flag c).At-loop-bit given.0.0) c.if-flag.true c.read_flag-flag.ensures.full (c.read_flag-flag.ensures.close_to_end c.if-flag.true)
+    ends-short _ _ _ _ _ _ _ _ _ (read (goal.at.returns-then-flag c).After-read_values-part) _ c.in-At.is _ _ (same-data (goal.at.returns-then-flag c).At-loop-bit c.in-At.bit) c.if-flag.true c.read_flag-flag.ensures.full (c.read_flag-flag.ensures.close_to_end c.if-flag.true)
 
 pub next_block-block-requires : goal.next_block-block-requires
-next_block-block-requires c = (c.requires.0.counted, leb-false _ _ c.if-count-position.false, c.loop-bit.invariant.2, c.reciprocal_of-reciprocal.ensures)
+next_block-block-requires c = (c.requires.0.counted, c.if-count-position.false, c.loop-bit.invariant.2, c.reciprocal_of-reciprocal.ensures)
 
 pub begun_at-position-requires : goal.begun_at-position-requires
 begun_at-position-requires c =
     let counted = c.requires.0.counted in
-    let left = leb-false _ _ c.if-count-position.false in
+    let left = c.if-count-position.false in
     let small = block-small _ counted _ _ left c.next_block-block.ensures in
     (omega (arith, few-blocks _ counted, left), small.0, small.1)
 
 pub loop-bit-smaller : goal.loop-bit-smaller
 loop-bit-smaller c =
-    let left : c.loop-bit.position.begun < count_of c.args.blocks = leb-false _ _ c.if-count-position.false in
+    let left : c.loop-bit.position.begun < count_of c.args.blocks = c.if-count-position.false in
     omega (arith, c.begun_at-position.ensures.0)
 
 pub loop-bit-preserved : goal.loop-bit-preserved
 loop-bit-preserved c =
     let on = c.in-At.is in
-    let same = same-data (goal.at.loop-bit-preserved c).At-loop-bit in
-    (
-      sofar-flag _ _ _ _ _ _ _ _ _ _ _ _ c.next_block-block.result c.begun_at-position.result.begun c.begun_at-position.result.values (read (goal.at.loop-bit-preserved c).After-read_values-part) (same _) on (leb-false _ _ c.if-count-position.false) (begun-read (goal.at.loop-bit-preserved c).After-read_values-part _ on c.if-part.false)
+    let same = same-data (goal.at.loop-bit-preserved c).At-loop-bit in (
+      sofar-flag _ _ _ _ _ _ _ _ _ _ _ _ c.next_block-block.result c.begun_at-position.result.begun c.begun_at-position.result.values (read (goal.at.loop-bit-preserved c).After-read_values-part) (same _) on c.if-count-position.false (begun-read (goal.at.loop-bit-preserved c).After-read_values-part _ on c.if-part.false)
           c.read_flag-flag.ensures c.if-flag.false c.next_block-block.ensures c.begun_at-position.ensures.0 c.begun_at-position.ensures.1,
       same _,
       c.next_block-block.ensures ∙ block-before-next _ _ _ c.begun_at-position.ensures.0,

@@ -1,6 +1,5 @@
 -- `prediction::mean_of` meets its contract: the sum of three numbers of 32 bits and 1 fits 64.
 use mathlib.Core.Path.{◌≡◌, refl, ◌∙◌}
-use borrow.Author.Rules.{rules}
 use lib.IntN.{pos, ◌+ℤ◌}
 use mir.Syntax.{w32, w64}
 use mir.Val.{to_z, of_z}
@@ -30,17 +29,17 @@ upper c = back w64 _ c.widen-3.type_inv ∙ c.widen-3.ensures ∙ back w32 _ c.r
 
 three : (c : After-add-three) →
     let a = c.args in
-    to_z w64 (of_z w64 c.add-three.result) ≡ a.false +ℤ a.corner +ℤ a.upper
+    to_z w64 (of_z w64 c.add-three.result) ≡ a.left +ℤ a.corner +ℤ a.upper
 three c = back w64 _ c.add-three.type_inv ∙ c.add-three.ensures ∙ rw (pair c.before.before, upper c.before) refl
 
 sum : (c : After-add) →
     let a = c.args in
-    to_z w64 (of_z w64 c.add.result) ≡ a.false +ℤ a.corner +ℤ a.upper +ℤ pos 1
+    to_z w64 (of_z w64 c.add.result) ≡ a.left +ℤ a.corner +ℤ a.upper +ℤ pos 1
 sum c = back w64 _ c.add.type_inv ∙ c.add.ensures ∙ rw (three c.before) refl
 
 third : (c : After-third) →
     let a = c.args in
-    to_z w64 (of_z w64 c.third.result) ≡ floor_div (a.false +ℤ a.corner +ℤ a.upper +ℤ pos 1) 3
+    to_z w64 (of_z w64 c.third.result) ≡ floor_div (a.left +ℤ a.corner +ℤ a.upper +ℤ pos 1) 3
 third c = back w64 _ c.third.type_inv ∙ c.third.ensures ∙ rw (sum c.before) refl
 
 pub add-pair-requires : goal.add-pair-requires

@@ -1,13 +1,8 @@
 use mathlib.Core.Path.{◌≡◌, refl, sym, ◌∙◌}
-use mathlib.Core.Bool.{true}
-use Prim.Native.Nat.{◌-◌, ◌≤◌}
 use native.Mathlib.Omega.{arith}
-use borrow.Author.Tests.{not-true, not-false}
-use lib.ListN.{length}
-use Rattle.base.specs.Walk.{walk}
 use Rattle.base.proofs.WalkLaws.{walk_none}
 use Rattle.base.proofs.Grids.{row-end}
-use Rattle.prediction.specs.Prediction.{ended, predicted_row, prediction}
+use Rattle.prediction.specs.Prediction.{predicted_row, prediction}
 use Rattle.prediction.proofs.PredictionLaws.{row_stays, turn-fits, turn-ends}
 use Rattle.prediction.proofs.predict.Goals as goal
 
@@ -25,15 +20,14 @@ pub returns-then-not-predict_row : goal.returns-then-not-predict_row
 unfolding prediction
 returns-then-not-predict_row c =
     turn-ends (predicted_row _ _) _ c.loop-y.y _ c.loop-y.invariant.2 (row_stays _ _) _ _ (omega arith)
-    (rw (not-true c.predict_row.result c.if-not-predict_row.true) at c.predict_row.ensures)
+    (rw (c.if-not-predict_row.true) at c.predict_row.ensures)
 
 pub loop-y-preserved : goal.loop-y-preserved
-loop-y-preserved c =
-    (
-      omega arith,
-      c.predict_row.auto.plane ∙ c.loop-y.invariant.1,
-      turn-fits (predicted_row _ _) _ c.loop-y.y _ c.loop-y.invariant.2 _ (rw (not-false c.predict_row.result c.if-not-predict_row.false) at c.predict_row.ensures),
-    )
+loop-y-preserved c = (
+  omega arith,
+  c.predict_row.auto.plane ∙ c.loop-y.invariant.1,
+  turn-fits (predicted_row _ _) _ c.loop-y.y _ c.loop-y.invariant.2 _ (rw (c.if-not-predict_row.false) at c.predict_row.ensures),
+)
 
 pub shape_of-plane : goal.shape_of-plane
 shape_of-plane c = c.loop-y.invariant.1

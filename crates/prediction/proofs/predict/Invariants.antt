@@ -1,15 +1,10 @@
 -- `prediction::predict` meets its contract: after y turns the state is that of the first y rows, and a row that does not fit ends the walk.
-use mathlib.Core.Path.{◌≡◌, refl, sym, ◌∙◌}
+use mathlib.Core.Path.{◌≡◌}
 use mathlib.Core.Bool.{true}
 use Prim.Native.Nat.{◌-◌, ◌≤◌}
-use native.Mathlib.Omega.{arith}
-use borrow.Author.Tests.{not-true, not-false}
 use lib.ListN.{length}
 use Rattle.base.specs.Walk.{walk}
-use Rattle.base.proofs.WalkLaws.{walk_none}
-use Rattle.base.proofs.Grids.{row-end}
-use Rattle.prediction.specs.Prediction.{ended, predicted_row, prediction}
-use Rattle.prediction.proofs.PredictionLaws.{row_stays, turn-fits, turn-ends}
+use Rattle.prediction.specs.Prediction.{ended, predicted_row}
 use Rattle.prediction.proofs.predict.Given as goal
 
 abbrev pub invariant-loop-y : goal.invariant-loop-y

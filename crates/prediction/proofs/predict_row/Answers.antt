@@ -1,12 +1,7 @@
 use mathlib.Core.Path.{◌≡◌, refl, sym, ◌∙◌}
-use mathlib.Core.Bool.{true}
-use Prim.Native.Nat.{◌-◌, ◌≤◌}
 use native.Mathlib.Omega.{arith}
-use borrow.Author.Tests.{not-true, not-false}
-use lib.ListN.{length}
-use Rattle.base.specs.Walk.{walk}
 use Rattle.base.proofs.WalkLaws.{walk_none}
-use Rattle.prediction.specs.Prediction.{ended, predicted_value, predicted_row}
+use Rattle.prediction.specs.Prediction.{predicted_value, predicted_row}
 use Rattle.prediction.proofs.PredictionLaws.{value_stays, turn-fits, turn-ends}
 use Rattle.prediction.proofs.predict_row.Goals as goal
 
@@ -20,15 +15,14 @@ pub returns-then-not-predict_value : goal.returns-then-not-predict_value
 unfolding predicted_row
 returns-then-not-predict_value c =
     turn-ends (predicted_value _ _) _ c.loop-x.x _ c.loop-x.invariant.2 (value_stays _ _) _ _ (omega arith)
-    (rw (not-true c.predict_value.result c.if-not-predict_value.true) at c.predict_value.ensures)
+    (rw (c.if-not-predict_value.true) at c.predict_value.ensures)
 
 pub loop-x-preserved : goal.loop-x-preserved
-loop-x-preserved c =
-    (
-      omega arith,
-      c.predict_value.auto.plane ∙ c.loop-x.invariant.1,
-      turn-fits (predicted_value _ _) _ c.loop-x.x _ c.loop-x.invariant.2 _ (rw (not-false c.predict_value.result c.if-not-predict_value.false) at c.predict_value.ensures),
-    )
+loop-x-preserved c = (
+  omega arith,
+  c.predict_value.auto.plane ∙ c.loop-x.invariant.1,
+  turn-fits (predicted_value _ _) _ c.loop-x.x _ c.loop-x.invariant.2 _ (rw (c.if-not-predict_value.false) at c.predict_value.ensures),
+)
 
 pub shape_of-plane : goal.shape_of-plane
 shape_of-plane c = c.loop-x.invariant.1

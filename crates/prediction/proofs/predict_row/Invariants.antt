@@ -1,14 +1,10 @@
 -- `prediction::predict_row` meets its contract: after x turns the state is that of the first x values, and a value that does not fit ends the walk.
-use mathlib.Core.Path.{◌≡◌, refl, sym, ◌∙◌}
+use mathlib.Core.Path.{◌≡◌}
 use mathlib.Core.Bool.{true}
 use Prim.Native.Nat.{◌-◌, ◌≤◌}
-use native.Mathlib.Omega.{arith}
-use borrow.Author.Tests.{not-true, not-false}
 use lib.ListN.{length}
 use Rattle.base.specs.Walk.{walk}
-use Rattle.base.proofs.WalkLaws.{walk_none}
-use Rattle.prediction.specs.Prediction.{ended, predicted_value, predicted_row}
-use Rattle.prediction.proofs.PredictionLaws.{value_stays, turn-fits, turn-ends}
+use Rattle.prediction.specs.Prediction.{ended, predicted_value}
 use Rattle.prediction.proofs.predict_row.Given as goal
 
 abbrev pub invariant-loop-x : goal.invariant-loop-x

@@ -3,7 +3,6 @@ use mathlib.Core.Path.{◌≡◌, refl, sym, ◌∙◌}
 use mathlib.Core.Bool.{true}
 use Prim.Native.Nat.{◌+◌, ◌*◌}
 use borrow.Author.Rules.{rules}
-use borrow.Author.Tests.{not-true, not-false}
 use lib.IntN.{pos, ◌+ℤ◌}
 use lib.ListN.{get_or}
 use mir.Syntax.{w32, w64}
@@ -17,7 +16,7 @@ use Rattle.prediction.proofs.predict_value.Goals.{After-add-v, After-predictor_a
 
 -- the value, what is predicted, and their sum
 value : (c : After-widen) → let a = c.args in to_z w64 (of_z w64 c.widen.result) ≡ get_or a.plane.now (a.y * a.stride + a.x) (pos 0)
-value c = back w64 _ c.widen.type_inv ∙ c.widen.ensures ∙ back w32 _ c.widen-arg-1.given
+value c = back w64 _ c.widen.type_inv ∙ c.widen.ensures ∙ back w32 (get_or c.args.plane.now (c.args.y * c.args.stride + c.args.x) (pos 0)) (search rules)
 
 guess : (c : After-predictor_at) →
     let a = c.args in
@@ -33,17 +32,17 @@ pub add-v-requires : goal.add-v-requires
 add-v-requires c =
     let a = c.args in
     rw (value (goal.at.add-v-requires c).After-widen, back w64 c.predictor_at.result c.predictor_at.type_inv)
-    (predicted-small (get_or a.plane.now (a.y * a.stride + a.x) (pos 0)) c.predictor_at.result c.widen-arg-1.given c.predictor_at.ensures.small)
+    (predicted-small (get_or a.plane.now (a.y * a.stride + a.x) (pos 0)) c.predictor_at.result (search rules) c.predictor_at.ensures.small)
 
 pub returns-then-not-fits_i32 : goal.returns-then-not-fits_i32
 returns-then-not-fits_i32 c =
-    value-not-stored _ _ _ _ _ (sum (goal.at.returns-then-not-fits_i32 c).After-add-v) (sym c.fits_i32.ensures ∙ not-true _ c.if-not-fits_i32.true)
+    value-not-stored _ _ _ _ _ (sum (goal.at.returns-then-not-fits_i32 c).After-add-v) (sym c.fits_i32.ensures ∙ c.if-not-fits_i32.true)
 
 pub narrow-requires : goal.narrow-requires
-narrow-requires c = sym c.fits_i32.ensures ∙ not-false _ c.if-not-fits_i32.false
+narrow-requires c = sym c.fits_i32.ensures ∙ c.if-not-fits_i32.false
 
 pub returns : goal.returns
 returns c =
-    let fits : fits32 (to_z w64 (of_z w64 c.add-v.result)) ≡ true = sym c.fits_i32.ensures ∙ not-false _ c.if-not-fits_i32.false in
+    let fits : fits32 (to_z w64 (of_z w64 c.add-v.result)) ≡ true = sym c.fits_i32.ensures ∙ c.if-not-fits_i32.false in
     rw (back w32 c.narrow.result c.narrow.type_inv, c.narrow.ensures)
     (value-stored _ _ _ _ _ (sum (goal.at.returns c).After-add-v) fits)

@@ -1,6 +1,6 @@
 -- `unpack::read_subband` meets its contract: each way on after the header and the data is a law of `subband`.
 use mathlib.Core.Path.{◌≡◌, refl, sym, ◌∙◌, subst}
-use borrow.Author.Rules.{rules}
+use native.Mathlib.Omega.{arith}
 use borrow.Author.Tests.{not-true, not-false}
 use Rattle.coefficients.specs.Values.{after}
 use Rattle.codeblocks.specs.Blocks.{Placed}
@@ -52,5 +52,5 @@ pub returns : goal.returns
 returns c =
     c.predict_band.ensures
     ∙ rw c.codeblocks_of-blocks.ensures
-    (first-intra _ _ _ _ _ _ _ c.if-k-ne0.false (not-false _ c.if-not-p.false)
+    (first-intra _ _ _ _ _ _ _ (omega arith) (not-false _ c.if-not-p.false)
     (rw c.in-At.is at (read (goal.at.returns c).After-read_headed-progress)))

@@ -1,13 +1,9 @@
 use mathlib.Core.Path.{◌≡◌, refl, sym, ap, ◌∙◌}
-use Prim.Native.Nat.{ℕ, suc, ◌+◌, ◌-◌, ◌*◌, ◌^◌, ◌≤◌, ◌<◌}
+use Prim.Native.Nat.{ℕ, suc, ◌+◌, ◌-◌, ◌<◌}
 use native.Mathlib.Omega.{arith}
-use borrow.Author.Rules.{rules}
-use lib.ListN.{length}
 use Rattle.component.specs.Subbands.{subband_count}
 use Rattle.component.proofs.ChecksLaws.{depth_most}
-use Rattle.coefficients.specs.declared.reading.Progress.TheVariants.{At}
 use Rattle.unpack.specs.Job.{outcome, ended_with, subbands_from}
-use Rattle.unpack.specs.Bounds.{ClearBandsFrom}
 use Rattle.unpack.proofs.JobLaws.{subbands-end, subbands-read}
 use Rattle.unpack.proofs.Within.{subband-bits-most}
 use Rattle.unpack.proofs.Frame.{clear_next}
@@ -62,10 +58,10 @@ shape_of-plane-then-k-count c =
 pub returns-then-k-count : goal.returns-then-k-count
 unfolding outcome ended_with
 returns-then-k-count c =
-    let told = c.progress-1.given in
+    let told = c.in-At.is in
     let none : c.subband_count-count.result - (c.loop-progress.k + 1) ≡ 0 = omega (arith, c.if-k-count.true) in
-    sym (ap (λ (n : ℕ). subbands_from c.args.p c.args.bytes.now n (c.loop-progress.k + 1) told.0.0 c.loop-progress.plane) none ∙ subbands-end _ _ _ _ _)
-    ∙ rw told.1 at (whole (goal.at.returns-then-k-count c).At-loop-progress)
+    sym (ap (λ (n : ℕ). subbands_from c.args.p c.args.bytes.now n (c.loop-progress.k + 1) c.in-At.bit c.loop-progress.plane) none ∙ subbands-end _ _ _ _ _)
+    ∙ rw told at (whole (goal.at.returns-then-k-count c).At-loop-progress)
 
 -- where the last was not read yet there is a next
 next-below : (c : Else-k-count) →
@@ -91,15 +87,15 @@ loop-progress-smaller c = omega (arith, c.loop-progress.invariant.0)
 pub loop-progress-preserved : goal.loop-progress-preserved
 unfolding ended_with
 loop-progress-preserved c =
-    let told = c.progress-1.given in
+    let told = c.in-At.is in
     let below = next-below (goal.at.loop-progress-preserved c).Else-k-count in
     let read = c.read_subband-progress-in-loop-progress.ensures in
     let more : suc (c.subband_count-count.result - (c.loop-progress.k + 1 + 1)) ≡ c.subband_count-count.result - (c.loop-progress.k + 1) = omega (arith, below, c.subband_count-count.ensures) in (
       omega (arith, below, c.subband_count-count.ensures),
-      (λ bit e. omega (arith, (subband-bits-most _ _ _ _ _ _ _ (rw e at read)).bits_most, c.loop-progress.invariant.1 _ told.1)),
+      (λ bit e. omega (arith, (subband-bits-most _ _ _ _ _ _ _ (rw e at read)).bits_most, c.loop-progress.invariant.1 _ told)),
       c.read_subband-progress-in-loop-progress.auto.plane ∙ c.loop-progress.invariant.2,
       clear_next _ _ c.requires.0 _ _ _ _ below read c.loop-progress.invariant.3,
       subbands-read _ _ (c.loop-progress.k + 1) _ _ (c.subband_count-count.result - (c.loop-progress.k + 1 + 1)) _ _ read
-          ∙ ap (λ (n : ℕ). subbands_from c.args.p c.args.bytes.now n (c.loop-progress.k + 1) told.0.0 c.loop-progress.plane) more
-          ∙ rw told.1 at c.loop-progress.invariant.4,
+          ∙ ap (λ (n : ℕ). subbands_from c.args.p c.args.bytes.now n (c.loop-progress.k + 1) c.in-At.bit c.loop-progress.plane) more
+          ∙ rw told at c.loop-progress.invariant.4,
     )

@@ -1,18 +1,11 @@
 -- `unpack::read_subbands` meets its contract: the subband that was read last, with those after it, gives what all of them give, and the entries of
 -- those after it still hold zeros. A subband is shorter than 2^36 bits, so the bits of all of them can be counted.
-use mathlib.Core.Path.{◌≡◌, refl, sym, ap, ◌∙◌}
-use Prim.Native.Nat.{ℕ, suc, ◌+◌, ◌-◌, ◌*◌, ◌^◌, ◌≤◌, ◌<◌}
-use native.Mathlib.Omega.{arith}
-use borrow.Author.Rules.{rules}
+use mathlib.Core.Path.{◌≡◌}
+use Prim.Native.Nat.{ℕ, ◌+◌, ◌-◌, ◌*◌, ◌^◌, ◌≤◌, ◌<◌}
 use lib.ListN.{length}
-use Rattle.component.specs.Subbands.{subband_count}
-use Rattle.component.proofs.ChecksLaws.{depth_most}
 use Rattle.coefficients.specs.declared.reading.Progress.TheVariants.{At}
-use Rattle.unpack.specs.Job.{outcome, ended_with, subbands_from}
+use Rattle.unpack.specs.Job.{ended_with, subbands_from}
 use Rattle.unpack.specs.Bounds.{ClearBandsFrom}
-use Rattle.unpack.proofs.JobLaws.{subbands-end, subbands-read}
-use Rattle.unpack.proofs.Within.{subband-bits-most}
-use Rattle.unpack.proofs.Frame.{clear_next}
 use Rattle.unpack.proofs.read_subbands.Given as goal
 
 abbrev pub invariant-loop-progress : goal.invariant-loop-progress

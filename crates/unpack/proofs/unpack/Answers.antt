@@ -1,6 +1,5 @@
 -- `unpack::unpack` meets its contract: refused by a check or not, it ends as the job's definition says.
 use mathlib.Core.Path.{◌≡◌, sym, ◌∙◌}
-use borrow.Author.Rules.{rules}
 use lib.ListN.{length}
 use Rattle.component.specs.Checks.{refusal_of}
 use Rattle.component.specs.declared.parameters.Job.TheVariants.{Unpack}

@@ -1,7 +1,6 @@
 -- `filters::bounds::bounds_after` meets its contract: the bound of the elements that the step changes is renewed.
 use mathlib.Core.Path.{sym, ap, ◌∙◌}
 use Prim.Native.Nat.{ℕ}
-use borrow.Author.Rules.{rules}
 use Rattle.filters.proofs.BoundsLaws.{bounds_pair, after-even, after-odd}
 use Rattle.filters.proofs.bounds.bounds_after.Goals as goal
 

@@ -2,7 +2,6 @@
 -- after it is the bound itself.
 use mathlib.Core.Path.{sym, ap, ◌∙◌}
 use mathlib.Core.Bool.{Bool, not}
-use borrow.Author.Rules.{rules}
 use Rattle.filters.specs.Bounds.{stays_small, bound_of}
 use Rattle.filters.proofs.BoundsLaws.{after-below}
 use Rattle.filters.proofs.bounds.stays_small.Goals as goal

@@ -1,7 +1,6 @@
 -- `filters::filter::rounding_of` meets its contract: the power is made by a shift that loses nothing.
 use Prim.Native.Nat.{◌-◌, ◌^◌}
 use native.Mathlib.Omega.{arith}
-use borrow.Author.Rules.{rules}
 use mir.Syntax.{w64}
 use mir.ValLaws.{to_z_pos}
 use Rattle.filters.specs.Lifting.{rounding}

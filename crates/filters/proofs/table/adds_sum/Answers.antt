@@ -1,5 +1,4 @@
 -- `filters::table::adds_sum` meets its contract: each arm is document 01's for the type.
-use borrow.Author.Rules.{rules}
 use Rattle.filters.specs.Lifting.{adds}
 use Rattle.filters.specs.Table.{listed_type}
 use Rattle.filters.proofs.table.adds_sum.Goals as goal

@@ -1,5 +1,4 @@
 -- `filters::table::changes_even` meets its contract: each arm is document 01's for the type.
-use borrow.Author.Rules.{rules}
 use Rattle.filters.specs.Lifting.{changes_even}
 use Rattle.filters.specs.Table.{listed_type}
 use Rattle.filters.proofs.table.changes_even.Goals as goal

@@ -1,6 +1,5 @@
 -- `filters::table::filter_of` meets its contract: the filter that the table lists is document 01's, and so are the records of its steps.
 use mathlib.Core.Path.{refl}
-use borrow.Author.Rules.{rules}
 use Rattle.filters.proofs.TableLaws.{same-filter, well_formed}
 use Rattle.filters.proofs.table.filter_of.Goals as goal
 

@@ -1,9 +1,9 @@
 use mathlib.Core.Path.{◌≡◌, refl, sym, ◌∙◌}
-use Prim.Native.Nat.{ℕ, ◌-◌, ◌^◌, ◌≤◌, ◌<◌}
+use Prim.Native.Nat.{ℕ, ◌^◌, ◌≤◌, ◌<◌}
 use native.Mathlib.Numerals.{add-one}
 use native.Mathlib.Omega.{arith}
 use lib.IntN.{pos, nat_abs}
-use lib.ListN.{get_or, take}
+use lib.ListN.{get_or}
 use mir.Syntax.{w64}
 use mir.Val.{to_z, of_z}
 use Rattle.base.proofs.Integers.{mag-size}
@@ -34,11 +34,11 @@ size_of-gain-requires c = rw (tap-back (goal.at.size_of-gain-requires c).In-loop
 pub overflow_add-gain : goal.overflow_add-gain
 overflow_add-gain c =
     let here = small (goal.at.overflow_add-gain c).Start c.loop-t.t (omega arith) in
-    omega (arith, c.loop-t.invariant.1, sizes-most c.args.taps.now c.loop-t.t (2 ^ 13) (λ k h. small (goal.at.overflow_add-gain c).Start k (omega arith)), rw (tap-back (goal.at.overflow_add-gain c).In-loop-t) at c.type_size.ensures, here)
+    omega (arith, c.loop-t.invariant.1, sizes-most c.args.taps.now c.loop-t.t (2 ^ 13) (λ k h. small (goal.at.overflow_add-gain c).Start k (omega arith)), rw (tap-back (goal.at.overflow_add-gain c).In-loop-t) at c.size_of-gain.ensures, here)
 
 pub loop-t-preserved : goal.loop-t-preserved
 loop-t-preserved c =
-    (omega arith, rw (c.type_size.ensures, tap-back (goal.at.loop-t-preserved c).In-loop-t, c.loop-t.invariant.1, add-one c.loop-t.t) (sym (sizes-more c.args.taps.now c.loop-t.t)))
+    (omega arith, rw (c.size_of-gain.ensures, tap-back (goal.at.loop-t-preserved c).In-loop-t, c.loop-t.invariant.1, add-one c.loop-t.t) (sym (sizes-more c.args.taps.now c.loop-t.t)))
 
 pub returns : goal.returns
 returns c =

@@ -3,7 +3,6 @@ use mathlib.Core.Path.{◌≡◌, ◌∙◌}
 use mathlib.Core.Bool.{Bool, true, false, cond}
 use Prim.Native.Nat.{◌≤◌}
 use native.Mathlib.Omega.{arith}
-use borrow.Author.Rules.{rules}
 use lib.IntN.{ℤ, pos, nat_abs, ◌+ℤ◌}
 use lib.Signed.{mag}
 use mir.Syntax.{w64}
@@ -53,4 +52,4 @@ size_of-requires c =
 
 pub returns : goal.returns
 unfolding lead_of
-returns c = c.type_size.ensures ∙ rw (sum_back (goal.at.returns c).After-add)
+returns c = c.size_of.ensures ∙ rw (sum_back (goal.at.returns c).After-add)

@@ -4,7 +4,6 @@ use mir.Syntax.{w64}
 use Rattle.base.proofs.RangeLaws.{back}
 use Rattle.filters.specs.Table.{record_of}
 use Rattle.filters.proofs.TableLaws.{record-made}
-use borrow.Author.Rules.{rules}
 use Rattle.filters.proofs.table.record_of.Goals as goal
 
 pub gain_of-gain-requires : goal.gain_of-gain-requires

@@ -1,11 +1,11 @@
 use mathlib.Core.Path.{◌≡◌, refl}
-use Prim.Native.Nat.{ℕ, ◌+◌, ◌-◌, ◌≤◌}
+use Prim.Native.Nat.{ℕ, ◌+◌}
 use native.Mathlib.Nat.{add-zero}
 use native.Mathlib.Omega.{arith}
 use borrow.Author.Count.{below_more}
-use lib.ListN.{length, get_or, set, length-set}
+use lib.ListN.{get_or, set, length-set}
 use lib.Seq.{get_or-set_same, get_or-set_other}
-use Rattle.filters.specs.Table.{StepAt, StepsFrom}
+use Rattle.filters.specs.Table.{StepAt}
 use Rattle.filters.specs.declared.filter.LiftingStep.{LiftingStep}
 use Rattle.filters.proofs.TableLaws.{row-record}
 use Rattle.filters.proofs.table.steps_from.Goals as goal

@@ -2,14 +2,13 @@
 use mathlib.Core.Path.{◌≡◌, ap}
 use Prim.Native.Nat.{◌+◌, ◌/◌, ◌<◌}
 use native.Mathlib.Omega.{arith}
-use borrow.Author.Rules.{rules}
 use lib.ListN.{get_or}
 use Rattle.component.specs.Subbands.{subband_at, subband_level}
 use Rattle.component.specs.declared.subbands.Subband.{Subband}
 use Rattle.component.proofs.ChecksLaws.{Counts, counts-at, width_most, height_most, depth_most}
 use Rattle.unpack.specs.Subband.{codeblocks_of}
 use Rattle.unpack.proofs.data.codeblocks_of.Goals as goal
-use Rattle.unpack.proofs.data.codeblocks_of.Goals.{After-down-1}
+use Rattle.unpack.proofs.data.codeblocks_of.Goals.{After-subband_at-subband}
 
 pub padded_size-stride-requires : goal.padded_size-stride-requires
 padded_size-stride-requires c =
@@ -24,36 +23,36 @@ subband_at-subband-requires c =
     (depth_most c.args.p c.requires.0.depth, c.requires.1)
 
 -- a level is at most 4
-level-small : (c : After-down-1) → c.subband_at-subband.result.level < 5
+level-small : (c : After-subband_at-subband) → c.subband_at-subband.result.level < 5
 unfolding subband_at subband_level
 level-small c =
     let is : c.subband_at-subband.result.level ≡ (c.args.k + 2) / 3 = ap (λ (s : Subband). s.level) c.subband_at-subband.ensures in
     omega (arith, is, c.requires.1, depth_most c.args.p c.requires.0.depth)
 
 -- and its codeblock counts are small
-counts : (c : After-down-1) → Counts (get_or c.args.p.codeblocks_across c.subband_at-subband.result.level 0) (get_or c.args.p.codeblocks_down c.subband_at-subband.result.level 0)
+counts : (c : After-subband_at-subband) → Counts (get_or c.args.p.codeblocks_across c.subband_at-subband.result.level 0) (get_or c.args.p.codeblocks_down c.subband_at-subband.result.level 0)
 unfolding subband_at subband_level
 counts c =
     let is : c.subband_at-subband.result.level ≡ (c.args.k + 2) / 3 = ap (λ (s : Subband). s.level) c.subband_at-subband.ensures in
     counts-at c.args.p c.requires.0.codeblocks c.subband_at-subband.result.level (omega (arith, is, c.requires.1))
 
 pub offset_bounds-across-level : goal.offset_bounds-across-level
-offset_bounds-across-level c = omega (arith, level-small (goal.at.offset_bounds-across-level c).After-down-1)
+offset_bounds-across-level c = omega (arith, level-small (goal.at.offset_bounds-across-level c).After-subband_at-subband)
 
 pub bounds-across-level : goal.bounds-across-level
-bounds-across-level c = level-small (goal.at.bounds-across-level c).After-down-1
+bounds-across-level c = level-small (goal.at.bounds-across-level c).After-subband_at-subband
 
 pub overflow_cast-result : goal.overflow_cast-result
-overflow_cast-result c = omega (arith, (counts (goal.at.overflow_cast-result c).After-down-1).across_most)
+overflow_cast-result c = omega (arith, (counts (goal.at.overflow_cast-result c).After-subband_at-subband).across_most)
 
 pub offset_bounds-down-level : goal.offset_bounds-down-level
-offset_bounds-down-level c = omega (arith, level-small (goal.at.offset_bounds-down-level c).After-down-1)
+offset_bounds-down-level c = omega (arith, level-small (goal.at.offset_bounds-down-level c).After-subband_at-subband)
 
 pub bounds-down-level : goal.bounds-down-level
-bounds-down-level c = level-small (goal.at.bounds-down-level c).After-down-1
+bounds-down-level c = level-small (goal.at.bounds-down-level c).After-subband_at-subband
 
 pub overflow_cast-result-2 : goal.overflow_cast-result-2
-overflow_cast-result-2 c = omega (arith, (counts (goal.at.overflow_cast-result-2 c).After-down-1).down_most)
+overflow_cast-result-2 c = omega (arith, (counts (goal.at.overflow_cast-result-2 c).After-subband_at-subband).down_most)
 
 pub returns : goal.returns
 unfolding codeblocks_of

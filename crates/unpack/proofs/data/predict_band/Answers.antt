@@ -1,5 +1,4 @@
 -- `unpack::data::predict_band` meets its contract: the band lies in the plane, and whether all values fit decides how the run goes on.
-use borrow.Author.Rules.{rules}
 use Rattle.unpack.proofs.SubbandLaws.{band-inside, band-fits, band-out}
 use Rattle.unpack.proofs.data.predict_band.Goals as goal
 

@@ -3,7 +3,6 @@
 use mathlib.Core.Path.{◌≡◌, refl, ap, ◌∙◌}
 use Prim.Native.Nat.{ℕ, ◌+◌, ◌-◌, ◌*◌, ◌/◌}
 use native.Mathlib.Omega.{arith}
-use borrow.Author.Rules.{rules}
 use lib.ListN.{take, drop}
 use Rattle.coefficients.specs.Scaling.{scale_of}
 use Rattle.coefficients.specs.Reading.{Run, goes_on}
@@ -17,14 +16,13 @@ use Rattle.unpack.proofs.data.read_data.Goals as goal
 use Rattle.unpack.proofs.data.read_data.Goals.{After-read_codeblocks-reached}
 
 pub read_codeblocks-reached-requires : goal.read_codeblocks-reached-requires
-read_codeblocks-reached-requires c =
-    (
-      c.requires.0,
-      omega arith,
-      clear-blocks c.args.blocks c.args.plane.now c.requires.0 c.requires.1.each,
-      record { before_end = omega arith; small = omega (arith, c.requires.3, c.requires.4) },
-      record { bounded = c.requires.2; knows = c.requires.6; small_values = c.small_values-small.ensures },
-    )
+read_codeblocks-reached-requires c = (
+  c.requires.0,
+  omega arith,
+  clear-blocks c.args.blocks c.args.plane.now c.requires.0 c.requires.1.each,
+  record { before_end = omega arith; small = omega (arith, c.requires.3, c.requires.4) },
+  record { bounded = c.requires.2; knows = c.requires.6; small_values = c.small_values-small.ensures },
+)
 
 -- the run that the callee left, as the definition has it
 left : (c : After-read_codeblocks-reached) →

@@ -1,7 +1,6 @@
 -- `unpack::data::read_headed` meets its contract: each kind of header goes on as the definition says, and the tests of a coded one are those
 -- of the definition, in its order.
 use native.Mathlib.Omega.{arith}
-use borrow.Author.Rules.{rules}
 use borrow.Author.Tests.{lt-ltb, le-ltb}
 use Rattle.unpack.specs.Subband.{checked_data, headed}
 use Rattle.unpack.proofs.data.read_headed.Goals as goal
@@ -22,7 +21,7 @@ overflow_mul-result c =
 
 pub returns-then-bytes-bit : goal.returns-then-bytes-bit
 unfolding headed checked_data
-returns-then-bytes-bit c = rw (c.in-Coded.is, le-ltb 115 _ c.if-index-gt-QUANTISER_MOST.false, lt-ltb _ _ c.if-bytes-bit.true)
+returns-then-bytes-bit c = rw (c.in-Coded.is, le-ltb 115 c.in-Coded.index (omega arith), lt-ltb _ _ c.if-bytes-bit.true)
 
 pub read_data-requires : goal.read_data-requires
 read_data-requires c =
@@ -38,7 +37,7 @@ unfolding headed checked_data
 returns-else-bytes-bit c =
     rw (
       c.in-Coded.is,
-      le-ltb 115 _ c.if-index-gt-QUANTISER_MOST.false,
+      le-ltb 115 c.in-Coded.index (omega arith),
       le-ltb _ _ c.if-bytes-bit.false,
     )
     (rw c.quantiser_of-q.ensures.0 at c.read_data.ensures)

@@ -1,6 +1,5 @@
 -- `unpack::header::boundary` meets its contract: it is the definition.
 use mathlib.Core.Path.{refl}
-use borrow.Author.Rules.{rules}
 use Rattle.unpack.specs.Header.{boundary}
 use Rattle.unpack.proofs.header.boundary.Goals as goal
 
