@@ -1,4 +1,4 @@
--- Laws of a codeblock's flag: none where there is one codeblock alone, a bit that is there, and one that is not.
+-- Laws of a codeblock's flag where there are several: a bit that is there, and one that is not.
 -- Assumes nothing.
 use mathlib.Core.Path.{◌≡◌, refl, sym, ◌∙◌}
 use mathlib.Core.Logic.{◌≢◌}
@@ -33,19 +33,6 @@ taken-before bytes end stated i bit next e before = by (present bytes end i) ref
     by false p = past p stated refl
 
 module _ (count : ℕ) (bytes : List ℕ) (c : Cursor) where
-  -- the only codeblock has no flag
-  pub flag-single : count ≡ 1 → Flagged count bytes c (record { skipped = false; bit = c.bit; short = false })
-  flag-single one =
-      record {
-        single = λ e. (refl, refl);
-        taken = λ several. absurd (several one);
-        before_end = λ before. before;
-        close_to_end = λ e.
-            let z : ◌≡◌ {A = ℕ} 0 1 = cc in
-            absurd (omega arith);
-        full = λ e. refl;
-      }
-
   -- one of several has, which may not be there
   module _ (several : count ≢ 1) where
     pub flag-absent : take_bit bytes c.end c.stated c.bit ≡ Absent → Flagged count bytes c (record { skipped = false; bit = c.bit; short = true })
