@@ -2,21 +2,26 @@
 ghost use Rattle.std.specs.Prelude.{◌+◌, ◌≤◌, length};
 
 use component::parameters::Answer;
-use libc::STDOUT_FILENO;
 use low_delay::parameters::LowDelay;
 use slices::parameters::Picture;
+use std::io;
 use vector_io::{end_line, put_answer, put_named};
 
 // Writes the line of a job and its answer.
-pub(crate) fn print_answer(p: LowDelay, bytes: usize, answer: Answer) {
-    let mut line = io::buffer();
+pub(crate) fn print_answer(
+    rt: &impl Print,
+    p: LowDelay,
+    bytes: usize,
+    answer: Answer,
+) -> io::Result<()> {
+    let mut line = [0u8; 4096];
     let picture = put_picture(&mut line, 0, p.picture);
     let numerator = put_named(&mut line, picture, b" of ", p.numerator as u64);
     let denominator = put_named(&mut line, numerator, b"/", p.denominator as u64);
     let data = put_named(&mut line, denominator, b" bytes ", bytes as u64);
     let place = put_answer(&mut line, data, answer);
     let end = end_line(&mut line, place);
-    io::write_all(STDOUT_FILENO, &line[..end]);
+    rt.write_all(&line[..end])
 }
 
 // Puts what the picture of a job is. As in `text`, a piece is put from an index on, and the answer is the index after it.

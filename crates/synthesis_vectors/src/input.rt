@@ -2,8 +2,9 @@
 ghost use Rattle.std.specs.Prelude.{◌<◌, length};
 
 use component::parameters::Parameters;
-use libc::STDIN_FILENO;
-use vector_io::two_bytes;
+use std::io;
+use std::io::Read;
+use vector_io::{read_full, two_bytes};
 
 // The parameters that a job's header gives: width, height, depth and wavelet.
 pub(crate) fn parameters_of(header: &[u8; 6]) -> Parameters {
@@ -20,29 +21,29 @@ pub(crate) fn parameters_of(header: &[u8; 6]) -> Parameters {
 }
 
 // Reads a whole plane from the input. False where the input ends before the plane does.
-pub(crate) fn read_plane(plane: &mut [i32]) -> bool {
+pub(crate) fn read_plane(input: &mut impl Read, plane: &mut [i32]) -> io::Result<bool> {
     let mut i = 0;
     while i < plane.len() {
-        if !read_coefficient(plane, i) {
-            return false;
+        if !read_coefficient(input, plane, i)? {
+            return Ok(false);
         }
         i += 1;
     }
-    true
+    Ok(true)
 }
 
 // Reads one coefficient from the input into an entry of a plane. False where the input ends before it.
-fn read_coefficient(plane: &mut [i32], index: usize) -> bool
+fn read_coefficient(input: &mut impl Read, plane: &mut [i32], index: usize) -> io::Result<bool>
     requires { index < length plane.old }
 {
     let mut bytes = [0u8; 4];
-    if io::read_full(STDIN_FILENO, &mut bytes) < 4 {
-        return false;
+    if read_full(input, &mut bytes)? < 4 {
+        return Ok(false);
     }
     let high = two_bytes(bytes[0], bytes[1]);
     let low = two_bytes(bytes[2], bytes[3]);
     plane[index] = twos_complement(high * 65536 + low);
-    true
+    Ok(true)
 }
 
 // The signed number that 32 bits stand for.

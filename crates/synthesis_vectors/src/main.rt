@@ -1,6 +1,7 @@
 // Runs synthesise on the jobs of the standard input and writes what each gives to the standard output. The independent decoder made the
 // stored input and the expected output, and says what they look like (host/vectors/src/synthesis_vectors.rs).
 #![tactic(auto)]
+
 mod input;
 mod output;
 
@@ -10,59 +11,79 @@ use crate::input::{parameters_of, read_plane};
 use crate::output::{print_answer, print_rows};
 use component::checks::{area_within, padded_area};
 use component::parameters::Parameters;
-use libc::{STDIN_FILENO, STDOUT_FILENO};
-use vector_io::{bad_input, fill_plane};
+use std::io;
+use std::io::Read;
+use vector_io::{bad_input, fill_plane, read_full};
 
 // The most coefficients of a job, and so the most samples.
 const AREA_MOST: usize = 65536;
 
 // Runs the jobs of the input. A proved loop has to end, so this one counts its turns down, from a number that no run uses up.
-fn main() {
+fn main(rt: HostRuntime) -> io::Result<()> {
+    let mut input = rt.stdin();
     let mut coefficients = [0i32; AREA_MOST];
     let mut work = [0i32; AREA_MOST];
     let mut samples = [0i32; AREA_MOST];
     let mut turns = u64::MAX;
-    while turns > 0 && run_next(&mut coefficients, &mut work, &mut samples) {
+    while turns > 0 && run_next(&rt, &mut input, &mut coefficients, &mut work, &mut samples)? {
         turns -= 1;
     }
+    Ok(())
 }
 
 // Reads the next job and runs it, in planes of the largest size. Answers whether the input may have another.
 fn run_next(
+    rt: &impl Print,
+    input: &mut impl Read,
     coefficients: &mut [i32; AREA_MOST],
     work: &mut [i32; AREA_MOST],
     samples: &mut [i32; AREA_MOST],
-) -> bool {
+) -> io::Result<bool> {
     let mut header = [0u8; 6];
-    let got = io::read_full(STDIN_FILENO, &mut header);
+    let got = read_full(input, &mut header)?;
     if got == 0 {
-        return false;
+        return Ok(false);
     }
     if got < 6 {
-        return bad_input();
+        return bad_input(rt);
     }
-    run_job(parameters_of(&header), coefficients, work, samples)
+    run_job(
+        rt,
+        input,
+        parameters_of(&header),
+        coefficients,
+        work,
+        samples,
+    )
 }
 
 // Reads the coefficients of a job and runs it. Answers whether the input may have another.
-fn run_job(p: Parameters, coefficients: &mut [i32], work: &mut [i32], samples: &mut [i32]) -> bool
+fn run_job(
+    rt: &impl Print,
+    input: &mut impl Read,
+    p: Parameters,
+    coefficients: &mut [i32],
+    work: &mut [i32],
+    samples: &mut [i32],
+) -> io::Result<bool>
     requires { (65536 ≤ length coefficients.old) × (65536 ≤ length work.old) × (65536 ≤ length samples.old) }
 {
     let count = coefficient_count(p);
     if count == 0 {
-        return bad_input();
+        return bad_input(rt);
     }
-    if !read_plane(&mut coefficients[..count]) {
-        return bad_input();
+    if !read_plane(input, &mut coefficients[..count])? {
+        return bad_input(rt);
     }
     let sample_count = (p.width as usize) * (p.height as usize);
     synthesise_and_print(
+        rt,
         p,
         &coefficients[..count],
         &mut work[..count],
         &mut samples[..sample_count],
-    );
-    true
+    )?;
+    Ok(true)
 }
 
 // How many coefficients a job has, or 0 where a size or the depth is out of range or the plane is too large.
@@ -77,23 +98,30 @@ fn coefficient_count(p: Parameters) -> usize
 }
 
 // Synthesises in planes that hold something already, and writes the answer, the samples, and what is wrong with the planes.
-fn synthesise_and_print(p: Parameters, coefficients: &[i32], work: &mut [i32], samples: &mut [i32])
+fn synthesise_and_print(
+    rt: &impl Print,
+    p: Parameters,
+    coefficients: &[i32],
+    work: &mut [i32],
+    samples: &mut [i32],
+) -> io::Result<()>
     requires { (1 ≤ p.width) × (p.width ≤ 4096) }
 {
     fill_plane(work, 7);
     fill_plane(samples, 7);
     let answer = transform::synthesise(p, coefficients, work, samples);
-    print_answer(p, answer);
+    print_answer(rt, p, answer)?;
     let status = answer.status;
     if status == 0 {
-        print_rows(samples, p.width as usize);
+        print_rows(rt, samples, p.width as usize)?;
     }
     if (status == 0 || status == 10) && !is_zero(work) {
-        io::write_all(STDOUT_FILENO, b"work not zero\n");
+        rt.write_all(b"work not zero\n")?;
     }
     if status == 10 && !is_zero(samples) {
-        io::write_all(STDOUT_FILENO, b"samples not zero\n");
+        rt.write_all(b"samples not zero\n")?;
     }
+    Ok(())
 }
 
 // Whether the whole plane is zero.

@@ -2,26 +2,27 @@
 ghost use Rattle.std.specs.Prelude.{◌≤◌};
 
 use component::parameters::{Answer, Parameters};
-use libc::STDOUT_FILENO;
+use std::io;
 use vector_io::{end_line, print_row, put_answer, put_job};
 
 // Writes the line of a job and its answer.
-pub(crate) fn print_answer(p: Parameters, answer: Answer) {
-    let mut line = io::buffer();
+pub(crate) fn print_answer(rt: &impl Print, p: Parameters, answer: Answer) -> io::Result<()> {
+    let mut line = [0u8; 4096];
     let job = put_job(&mut line, 0, p);
     let place = put_answer(&mut line, job, answer);
     let end = end_line(&mut line, place);
-    io::write_all(STDOUT_FILENO, &line[..end]);
+    rt.write_all(&line[..end])
 }
 
 // Writes the rows of a picture, a line each.
-pub(crate) fn print_rows(samples: &[i32], width: usize)
+pub(crate) fn print_rows(rt: &impl Print, samples: &[i32], width: usize) -> io::Result<()>
     requires { (1 ≤ width) × (width ≤ 4096) }
 {
     let mut start = 0;
     while width <= samples.len() - start {
         let end = start + width;
-        print_row(&samples[start..end]);
+        print_row(rt, &samples[start..end])?;
         start = end;
     }
+    Ok(())
 }

@@ -1,6 +1,7 @@
 // Runs unpack on the jobs of the standard input and writes what each gives to the standard output. The independent decoder made the
 // stored input and the expected output, and says what they look like (host/vectors/src/unpack_vectors.rs).
 #![tactic(auto)]
+
 mod input;
 mod output;
 
@@ -9,57 +10,86 @@ ghost use Rattle.std.specs.Prelude.{◌≤◌, length};
 use crate::input::{byte_count, parameters_of, plane_length};
 use crate::output::print_answer;
 use component::parameters::Parameters;
-use libc::STDIN_FILENO;
-use vector_io::{bad_input, fill_plane, print_row};
+use std::io;
+use std::io::Read;
+use vector_io::{bad_input, fill_plane, print_row, read_full};
 
 // Runs the jobs of the input. A proved loop has to end, so this one counts its turns down, from a number that no run uses up.
-fn main() {
+fn main(rt: HostRuntime) -> io::Result<()> {
+    let mut input = rt.stdin();
     let mut bytes = [0u8; 16384];
     let mut plane = [0i32; 4096];
     let mut turns = u64::MAX;
-    while turns > 0 && run_next(&mut bytes, &mut plane) {
+    while turns > 0 && run_next(&rt, &mut input, &mut bytes, &mut plane)? {
         turns -= 1;
     }
+    Ok(())
 }
 
 // Reads the next job and runs it, with room for the longest data and the largest plane. Answers whether the input may have another.
-fn run_next(bytes: &mut [u8; 16384], plane: &mut [i32; 4096]) -> bool {
+fn run_next(
+    rt: &impl Print,
+    input: &mut impl Read,
+    bytes: &mut [u8; 16384],
+    plane: &mut [i32; 4096],
+) -> io::Result<bool> {
     let mut header = [0u8; 21];
-    let got = io::read_full(STDIN_FILENO, &mut header);
+    let got = read_full(input, &mut header)?;
     if got == 0 {
-        return false;
+        return Ok(false);
     }
     if got < 21 {
-        return bad_input();
+        return bad_input(rt);
     }
     let count = byte_count(&header);
     let entries = plane_length(&header);
-    run_job(parameters_of(&header), count, entries, bytes, plane)
+    run_job(
+        rt,
+        input,
+        parameters_of(&header),
+        count,
+        entries,
+        bytes,
+        plane,
+    )
 }
 
 // Reads the data of a job, of so many bytes, and runs it in a plane of so many entries. Answers whether the input may have another.
-fn run_job(p: Parameters, count: usize, entries: usize, bytes: &mut [u8], plane: &mut [i32]) -> bool
+fn run_job(
+    rt: &impl Print,
+    input: &mut impl Read,
+    p: Parameters,
+    count: usize,
+    entries: usize,
+    bytes: &mut [u8],
+    plane: &mut [i32],
+) -> io::Result<bool>
     requires { (16384 ≤ length bytes.old) × (4096 ≤ length plane.old) }
 {
     if count > 16384 {
-        return bad_input();
+        return bad_input(rt);
     }
     if entries > 4096 {
-        return bad_input();
+        return bad_input(rt);
     }
-    if io::read_full(STDIN_FILENO, &mut bytes[..count]) < count {
-        return bad_input();
+    if read_full(input, &mut bytes[..count])? < count {
+        return bad_input(rt);
     }
-    unpack_and_print(p, &bytes[..count], &mut plane[..entries]);
-    true
+    unpack_and_print(rt, p, &bytes[..count], &mut plane[..entries])?;
+    Ok(true)
 }
 
 // Unpacks into a plane that holds sevens, and writes the answer and the whole plane, as one row.
-fn unpack_and_print(p: Parameters, bytes: &[u8], plane: &mut [i32])
+fn unpack_and_print(
+    rt: &impl Print,
+    p: Parameters,
+    bytes: &[u8],
+    plane: &mut [i32],
+) -> io::Result<()>
     requires { length plane.old ≤ 4096 }
 {
     fill_plane(plane, 7);
     let answer = unpack::unpack(p, bytes, plane);
-    print_answer(p, bytes.len(), answer);
-    print_row(plane);
+    print_answer(rt, p, bytes.len(), answer)?;
+    print_row(rt, plane)
 }

@@ -1,7 +1,8 @@
-// What the programs that run stored vectors share: numbers of the input, pieces of the lines of the output, and planes that hold something
-// before a call.
+// What the programs that run stored vectors share: reading the input and its numbers, pieces of the lines of the output, and planes that hold
+// something before a call.
 #![tactic(auto)]
-ghost use Rattle.std.specs.Prelude.{◌≡◌, false, ◌+◌, ◌*◌, ◌≤◌, ◌<◌, length};
+
+ghost use Rattle.std.specs.Prelude.{◌≡◌, false, ◌+◌, ◌*◌, ◌≤◌, ◌<◌, length, IfOk};
 ghost use Rattle.base.specs.Fill.{fill};
 ghost use Rattle.io.specs.Counts.{IsPrefixLen};
 ghost use Rattle.text.specs.Put.{Put};
@@ -9,7 +10,7 @@ ghost use Rattle.text.specs.Text.{ascii, row_text};
 ghost use Rattle.vector_io.specs.Lines.{named, job_text, answer_text};
 
 use component::parameters::{Answer, Parameters};
-use libc::STDOUT_FILENO;
+use std::io::Read;
 use text::{put_decimal, put_row, put_word};
 
 // The number of two bytes, the high one first.
@@ -31,11 +32,26 @@ pub fn fill_plane(plane: &mut [i32], number: i32)
 }
 
 // Says that the input is bad, and answers that there is no other job.
-pub fn bad_input() -> bool
-    ensures { result ≡ false }
+pub fn bad_input(rt: &impl Print) -> std::io::Result<bool>
+    ensures { IfOk result (λ more. more ≡ false) }
 {
-    io::write_all(STDOUT_FILENO, b"bad input\n");
-    false
+    rt.write_all(b"bad input\n")?;
+    Ok(false)
+}
+
+// Reads until the bytes are full or the input ends, and answers how many were read.
+pub fn read_full(input: &mut impl Read, bytes: &mut [u8]) -> std::io::Result<usize>
+    ensures { IfOk result (λ count. IsPrefixLen count bytes.new) }
+{
+    let mut count = 0;
+    while count < bytes.len() {
+        let more = input.read(&mut bytes[count..])?;
+        if more == 0 {
+            return Ok(count);
+        }
+        count += more;
+    }
+    Ok(count)
 }
 
 // Puts a name and its number. As in `text`, a piece is put from an index on, and the answer is the index after it.
@@ -89,10 +105,10 @@ pub fn end_with_row(line: &mut [u8; 65536], at: usize, row: &[i32]) -> usize
 }
 
 // Writes a row as a line.
-pub fn print_row(row: &[i32])
+pub fn print_row(rt: &impl Print, row: &[i32]) -> std::io::Result<()>
     requires { length row.now ≤ 4096 }
 {
-    let mut line = io::large_buffer();
+    let mut line = [0u8; 65536];
     let end = end_with_row(&mut line, 0, row);
-    io::write_all(STDOUT_FILENO, &line[..end]);
+    rt.write_all(&line[..end])
 }

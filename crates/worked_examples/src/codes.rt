@@ -2,52 +2,63 @@
 ghost use Rattle.std.specs.Prelude.{◌+◌, ◌≤◌, length};
 
 use exp_golomb::codes::{Number, read_unsigned, status};
-use libc::STDOUT_FILENO;
+use std::io;
 use vector_io::{end_line, put_named};
 
 // Reads codes of 31 data bits, of 32, and of 31 with nothing after them.
-pub(crate) fn read_longest_codes() {
+pub(crate) fn read_longest_codes(rt: &impl Print) -> io::Result<()> {
     read_and_print(
+        rt,
         b"code of 31 data bits, each 0",
         b"\x00\x00\x00\x00\x00\x00\x00\x02",
         64,
         false,
-    );
+    )?;
     read_and_print(
+        rt,
         b"code of 31 data bits, each 1",
         b"\x55\x55\x55\x55\x55\x55\x55\x56",
         64,
         false,
-    );
+    )?;
     read_and_print(
+        rt,
         b"code of 32 data bits",
         b"\x55\x55\x55\x55\x55\x55\x55\x55\x80",
         72,
         false,
-    );
+    )?;
     read_and_print(
+        rt,
         b"code that ends after its 31st data bit, in a header",
         b"\x55\x55\x55\x55\x55\x55\x55\x55",
         62,
         false,
-    );
+    )?;
     read_and_print(
+        rt,
         b"code that ends after its 31st data bit, in block data",
         b"\x55\x55\x55\x55\x55\x55\x55\x55",
         62,
         true,
-    );
+    )
 }
 
 // Reads the number at the start of data that end at bit `end`, and writes the line of the case.
-fn read_and_print(case: &[u8], bytes: &[u8], end: usize, stated: bool) {
+fn read_and_print(
+    rt: &impl Print,
+    case: &[u8],
+    bytes: &[u8],
+    end: usize,
+    stated: bool,
+) -> io::Result<()> {
     let number = read_unsigned(bytes, end, stated, 0);
-    let mut line = io::buffer();
+    let mut line = [0u8; 4096];
     let after = put_named(&mut line, 0, b": status ", status(number) as u64);
     let last = put_next(&mut line, after, number);
     let count = end_line(&mut line, last);
-    io::write_all(STDOUT_FILENO, case);
-    io::write_all(STDOUT_FILENO, &line[..count]);
+    rt.write_all(case)?;
+    rt.write_all(&line[..count])
 }
 
 // Puts the bit after those taken, and the number that was read.

@@ -3,55 +3,64 @@ ghost use Rattle.std.specs.Prelude.{◌≤◌, length};
 
 use crate::output::print_case;
 use component::parameters::Parameters;
+use std::io;
 
 // Synthesises pictures whose numbers come to the greatest, and one beyond it.
-pub(crate) fn synthesise_greatest() {
-    synthesise_level(b"LL 2147483647 by wavelet 3", 3, i32::MAX, 0);
-    synthesise_level(b"LL 2147483647 and LH 1 by wavelet 3", 3, i32::MAX, 1);
-    synthesise_level(b"LL 2147483647 and LH 2 by wavelet 3", 3, i32::MAX, 2);
-    synthesise_level(b"LL 2147483647 by wavelet 1", 1, i32::MAX, 0);
+pub(crate) fn synthesise_greatest(rt: &impl Print) -> io::Result<()> {
+    synthesise_level(rt, b"LL 2147483647 by wavelet 3", 3, i32::MAX, 0)?;
+    synthesise_level(rt, b"LL 2147483647 and LH 1 by wavelet 3", 3, i32::MAX, 1)?;
+    synthesise_level(rt, b"LL 2147483647 and LH 2 by wavelet 3", 3, i32::MAX, 2)?;
+    synthesise_level(rt, b"LL 2147483647 by wavelet 1", 1, i32::MAX, 0)
 }
 
 // Synthesises pictures whose numbers come to the least, and one beyond it.
-pub(crate) fn synthesise_least() {
-    synthesise_level(b"LL -2147483648 by wavelet 3", 3, i32::MIN, 0);
-    synthesise_level(b"LL -2147483648 and LH 1 by wavelet 3", 3, i32::MIN, 1);
-    synthesise_level(b"LL -2147483648 by wavelet 1", 1, i32::MIN, 0);
+pub(crate) fn synthesise_least(rt: &impl Print) -> io::Result<()> {
+    synthesise_level(rt, b"LL -2147483648 by wavelet 3", 3, i32::MIN, 0)?;
+    synthesise_level(rt, b"LL -2147483648 and LH 1 by wavelet 3", 3, i32::MIN, 1)?;
+    synthesise_level(rt, b"LL -2147483648 by wavelet 1", 1, i32::MIN, 0)
 }
 
 // Synthesises pictures of two levels: one whose numbers stay within 32 bits, and ones that leave them at level 1 and at level 2.
-pub(crate) fn synthesise_deeper() {
-    synthesise_levels(b"LL 2147483647 at depth 2 by wavelet 3", 0, 0);
-    synthesise_levels(b"LL 2147483647 and LH 2 at level 1 by wavelet 3", 2, 0);
-    synthesise_levels(b"LL 2147483647 and LH 2 at level 2 by wavelet 3", 0, 2);
+pub(crate) fn synthesise_deeper(rt: &impl Print) -> io::Result<()> {
+    synthesise_levels(rt, b"LL 2147483647 at depth 2 by wavelet 3", 0, 0)?;
+    synthesise_levels(rt, b"LL 2147483647 and LH 2 at level 1 by wavelet 3", 2, 0)?;
+    synthesise_levels(rt, b"LL 2147483647 and LH 2 at level 2 by wavelet 3", 0, 2)
 }
 
 // Synthesises 2 by 2 samples of one level, and writes the line of the case.
-fn synthesise_level(case: &[u8], wavelet: u32, ll: i32, lh: i32) {
+fn synthesise_level(
+    rt: &impl Print,
+    case: &[u8],
+    wavelet: u32,
+    ll: i32,
+    lh: i32,
+) -> io::Result<()> {
     let coefficients = [ll, 0, lh, 0];
     let mut work = [7i32; 4];
     let mut samples = [7i32; 4];
     synthesise_and_print(
+        rt,
         case,
         square_of(2, 1, wavelet),
         &coefficients,
         &mut work,
         &mut samples,
-    );
+    )
 }
 
 // Synthesises 4 by 4 samples of two levels, with one entry in the LH of each, and writes the line of the case.
-fn synthesise_levels(case: &[u8], lh1: i32, lh2: i32) {
+fn synthesise_levels(rt: &impl Print, case: &[u8], lh1: i32, lh2: i32) -> io::Result<()> {
     let coefficients = [i32::MAX, 0, 0, 0, lh1, 0, 0, 0, lh2, 0, 0, 0, 0, 0, 0, 0];
     let mut work = [7i32; 16];
     let mut samples = [7i32; 16];
     synthesise_and_print(
+        rt,
         case,
         square_of(4, 2, 3),
         &coefficients,
         &mut work,
         &mut samples,
-    );
+    )
 }
 
 // The parameters of a square picture.
@@ -70,14 +79,15 @@ fn square_of(size: u32, depth: u32, wavelet: u32) -> Parameters {
 
 // Synthesises samples of coefficients, and writes the line of the case, with all samples.
 fn synthesise_and_print(
+    rt: &impl Print,
     case: &[u8],
     p: Parameters,
     coefficients: &[i32],
     work: &mut [i32],
     samples: &mut [i32],
-)
+) -> io::Result<()>
     requires { length samples.old ≤ 16 }
 {
     let answer = transform::synthesise(p, coefficients, work, samples);
-    print_case(case, answer, samples);
+    print_case(rt, case, answer, samples)
 }

@@ -5,9 +5,10 @@ use crate::output::{print_case, print_plane};
 use low_delay::parameters::LowDelay;
 use low_delay::unpack_low_delay;
 use slices::parameters::Picture;
+use std::io;
 
 // Unpacks 4 by 2 samples of luma and 2 by 2 of chroma in slices of 4 and 5 bytes, with a matrix.
-pub(crate) fn unpack_two_slices() {
+pub(crate) fn unpack_two_slices(rt: &impl Print) -> io::Result<()> {
     let matrix = [2u32, 0, 0, 1, 0, 0, 0, 0, 0, 0, 0, 0, 0];
     let p = LowDelay {
         picture: Picture {
@@ -28,25 +29,26 @@ pub(crate) fn unpack_two_slices() {
     let mut first = [7i32; 4];
     let mut second = [7i32; 4];
     unpack_planes(
+        rt,
         b"slices of 4 and 5 bytes",
         p,
         b"\x08\xf0\x8e\x5f\x04\x53\xca\x47\x6f",
         &mut luma,
         &mut first,
         &mut second,
-    );
+    )
 }
 
 // Unpacks slices of one byte, which has one bit for values, and slices whose luma length is the number of bits left, and one more.
-pub(crate) fn unpack_short_slices() {
-    unpack_one_slice(b"slice of one byte that ends with 0", b"\x00", 1);
-    unpack_one_slice(b"slice of one byte that ends with 1", b"\x01", 1);
-    unpack_one_slice(b"luma length 5 where 5 bits are left", b"\x00\xa0", 2);
-    unpack_one_slice(b"luma length 6 where 5 bits are left", b"\x00\xc0", 2);
+pub(crate) fn unpack_short_slices(rt: &impl Print) -> io::Result<()> {
+    unpack_one_slice(rt, b"slice of one byte that ends with 0", b"\x00", 1)?;
+    unpack_one_slice(rt, b"slice of one byte that ends with 1", b"\x01", 1)?;
+    unpack_one_slice(rt, b"luma length 5 where 5 bits are left", b"\x00\xa0", 2)?;
+    unpack_one_slice(rt, b"luma length 6 where 5 bits are left", b"\x00\xc0", 2)
 }
 
 // Unpacks one sample of each component in one slice of so many bytes, and writes the lines of the case.
-fn unpack_one_slice(case: &[u8], bytes: &[u8], size: u32) {
+fn unpack_one_slice(rt: &impl Print, case: &[u8], bytes: &[u8], size: u32) -> io::Result<()> {
     let matrix = [0u32; 13];
     let p = LowDelay {
         picture: Picture {
@@ -66,22 +68,23 @@ fn unpack_one_slice(case: &[u8], bytes: &[u8], size: u32) {
     let mut luma = [7i32; 1];
     let mut first = [7i32; 1];
     let mut second = [7i32; 1];
-    unpack_planes(case, p, bytes, &mut luma, &mut first, &mut second);
+    unpack_planes(rt, case, p, bytes, &mut luma, &mut first, &mut second)
 }
 
 // Unpacks bytes into three planes, and writes the lines of the case, with the whole planes.
 fn unpack_planes(
+    rt: &impl Print,
     case: &[u8],
     p: LowDelay,
     bytes: &[u8],
     luma: &mut [i32],
     first: &mut [i32],
     second: &mut [i32],
-)
+) -> io::Result<()>
     requires { (length luma.old ≤ 16) × (length first.old ≤ 16) × (length second.old ≤ 16) }
 {
     let answer = unpack_low_delay(p, bytes, luma, first, second);
-    print_case(case, answer, luma);
-    print_plane(b"C1: ", first);
-    print_plane(b"C2: ", second);
+    print_case(rt, case, answer, luma)?;
+    print_plane(rt, b"C1: ", first)?;
+    print_plane(rt, b"C2: ", second)
 }
