@@ -320,18 +320,18 @@ module _ (d : PartData) (scale : ℕ → ℕ) (holder : Holder) where
       (λ k below t. rw (zero-mul a.stride, add-zero (a.start + (0 + k) * a.stride)) refl)
 
 -- A span that has moved on in the same data.
-module _ (s t : Span) (End-same : t.end ≡ s.end) (origin-same : t.origin ≡ s.origin) where
+module _ (s t : Span) (end-same : t.end ≡ s.end) (origin-same : t.origin ≡ s.origin) where
   pub span-again : t.bit ≤ s.end → SoundSpan s → SoundSpan t
-  span-again inside sound = record { before_end = rw End-same inside; small = rw (End-same, origin-same) sound.small }
+  span-again inside sound = record { before_end = rw end-same inside; small = rw (end-same, origin-same) sound.small }
 
-module _ (bytes : List ℕ) (s t : Span) (End-same : t.end ≡ s.end) (origin-same : t.origin ≡ s.origin) (scale : ℕ → ℕ) (holder : Holder) where
+module _ (bytes : List ℕ) (s t : Span) (end-same : t.end ≡ s.end) (origin-same : t.origin ≡ s.origin) (scale : ℕ → ℕ) (holder : Holder) where
   entry-moved : (i : ℕ) (v : RunOf Planes) → entry_values (data_of bytes t) scale holder i v ≡ entry_values (data_of bytes s) scale holder i v
   unfolding entry_values
   entry-moved i v = by holder
     where
       by : (h : Holder) → entry_values (data_of bytes t) scale h i v ≡ entry_values (data_of bytes s) scale h i v
-      by Luma = rw (End-same, origin-same) refl
-      by Both = rw (End-same, origin-same) refl
+      by Luma = rw (end-same, origin-same) refl
+      by Both = rw (end-same, origin-same) refl
 
   area-moved : (a : Rectangle) (r : RunOf Planes) → area_values (data_of bytes t) scale holder a r ≡ area_values (data_of bytes s) scale holder a r
   unfolding area_values
@@ -346,4 +346,4 @@ module _ (bytes : List ℕ) (s t : Span) (End-same : t.end ≡ s.end) (origin-sa
   pub left-again : (progress : Progress) (planes : Planes) (run : List ℤ) (a : Rectangle) (r : RunOf Planes) →
       Left t.end progress planes run (area_values (data_of bytes t) scale holder a r) → Left s.end progress planes run (area_values (data_of bytes s) scale holder a r)
   left-again progress planes run a r left =
-      subst (λ (n : ℕ). Left n progress planes run (area_values (data_of bytes s) scale holder a r)) End-same (rw (area-moved a r) at left)
+      subst (λ (n : ℕ). Left n progress planes run (area_values (data_of bytes s) scale holder a r)) end-same (rw (area-moved a r) at left)
