@@ -133,7 +133,7 @@ fn unpack_and_print(
     fill_plane(second, 7);
     let answer = unpack_low_delay(p, bytes, luma, first, second);
     print_answer(rt, p, bytes.len(), answer)?;
-    print_row(rt, luma)?;
-    print_row(rt, first)?;
-    print_row(rt, second)
+    print_row(&mut io::writer(rt), luma)?;
+    print_row(&mut io::writer(rt), first)?;
+    print_row(&mut io::writer(rt), second)
 }

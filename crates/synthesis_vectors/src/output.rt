@@ -21,7 +21,7 @@ pub(crate) fn print_rows(rt: &impl Print, samples: &[i32], width: usize) -> io::
     let mut start = 0;
     while width <= samples.len() - start {
         let end = start + width;
-        print_row(rt, &samples[start..end])?;
+        print_row(&mut io::writer(rt), &samples[start..end])?;
         start = end;
     }
     Ok(())

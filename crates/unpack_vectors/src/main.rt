@@ -91,5 +91,5 @@ fn unpack_and_print(
     fill_plane(plane, 7);
     let answer = unpack::unpack(p, bytes, plane);
     print_answer(rt, p, bytes.len(), answer)?;
-    print_row(rt, plane)
+    print_row(&mut io::writer(rt), plane)
 }

@@ -2,7 +2,8 @@
 // something before a call.
 #![tactic(auto)]
 
-ghost use Rattle.std.specs.Prelude.{◌≡◌, false, ◌+◌, ◌*◌, ◌≤◌, ◌<◌, length, IfOk};
+ghost use Rattle.std.specs.Prelude.{◌≡◌, false, ◌+◌, ◌*◌, ◌≤◌, ◌<◌, length, IfOk, OnOk};
+ghost use Rattle.std.specs.Io.KnownBytes.{Appends};
 ghost use Rattle.base.specs.Fill.{fill};
 ghost use Rattle.io.specs.Counts.{IsPrefixLen};
 ghost use Rattle.text.specs.Put.{Put};
@@ -10,7 +11,7 @@ ghost use Rattle.text.specs.Text.{ascii, row_text};
 ghost use Rattle.vector_io.specs.Lines.{named, job_text, answer_text};
 
 use component::parameters::{Answer, Parameters};
-use std::io::Read;
+use std::io::{Read, Write};
 use text::{put_decimal, put_row, put_word};
 
 // The number of two bytes, the high one first.
@@ -105,10 +106,11 @@ pub fn end_with_row(line: &mut [u8; 65536], at: usize, row: &[i32]) -> usize
 }
 
 // Writes a row as a line.
-pub fn print_row(rt: &impl Print, row: &[i32]) -> std::io::Result<()>
+pub fn print_row<W: Write>(to: &mut W, row: &[i32]) -> std::io::Result<()>
     requires { length row.now ≤ 4096 }
+    ensures { OnOk result (Appends (W.contents to.old) (W.contents to.new) (row_text row.now)) }
 {
     let mut line = [0u8; 65536];
     let end = end_with_row(&mut line, 0, row);
-    rt.write_all(&line[..end])
+    to.write_all(&line[..end])
 }
