@@ -6,6 +6,7 @@ use Prim.Native.Nat.{ℕ, zero, suc, ◌+◌, ◌-◌, ◌*◌, ◌/◌, ◌%◌
 use native.Mathlib.Nat.{mul_assoc, mul-le-mul_left, mul-div_cancel, pow-suc, le-div_iff_mul-le, lt-div-mul-add}
 use native.Mathlib.Omega.{arith}
 use lib.Pow.{pow_pos, pow_mono, pow-add}
+use Rattle.std.specs.Int.{next_multiple_of}
 use Rattle.component.specs.Sizes.{padded_size, band_size, size_at}
 
 -- what holds at each depth that is allowed
@@ -23,6 +24,13 @@ power = at-depths (λ d. (1 * 2 ^ d) % 2 ^ 64 ≡ 2 ^ d) refl refl refl refl ref
 
 pub power-bounds : (depth : ℕ) → depth ≤ 4 → (1 ≤ 2 ^ depth) × (2 ^ depth ≤ 16)
 power-bounds = at-depths (λ d. (1 ≤ 2 ^ d) × (2 ^ d ≤ 16)) (omega arith) (omega arith) (omega arith) (omega arith) (omega arith)
+
+-- a padded size is the next multiple of 2^depth
+pub padded-next : (depth : ℕ) → depth ≤ 4 → (size : ℕ) → next_multiple_of size (2 ^ depth) ≡ padded_size depth size
+unfolding padded_size
+padded-next =
+    at-depths (λ d. (size : ℕ) → next_multiple_of size (2 ^ d) ≡ padded_size d size)
+    (λ size. omega arith) (λ size. omega arith) (λ size. omega arith) (λ size. omega arith) (λ size. omega arith)
 
 -- a padded size is at least the size, and at most 4096 where the size is
 pub padded-least : (depth size : ℕ) → size ≤ padded_size depth size

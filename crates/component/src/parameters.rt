@@ -61,16 +61,7 @@ impl From<Result<(), Refused>> for Answer {
     ghost from_gives = { λ r a. a ≡ answer_without_place r };
 
     fn from(outcome: Result<(), Refused>) -> Answer {
-        match outcome {
-            Ok(()) => Answer {
-                status: 0,
-                place: 0,
-            },
-            Err(Refused { refusal, place }) => Answer {
-                status: refusal.number(),
-                place,
-            },
-        }
+        Answer::from(outcome.map(|()| 0))
     }
 }
 

@@ -10,8 +10,7 @@ pub fn padded_size(depth: usize, size: usize) -> usize
     requires { (depth ≤ 4) × (size ≤ 4096) }
     ensures { result ≡ padded_size depth size }
 {
-    let s = 1 << depth;
-    (size + (s - 1)) / s * s
+    size.next_multiple_of(1 << depth)
 }
 
 // The padded width of a component.

@@ -1,10 +1,10 @@
--- `component::checks::refusal` meets its contract: the tests are made in the order of their numbers, and the first that fails answers.
+-- `component::checks::check` meets its contract: the tests are made in the order of their numbers, and the first that fails answers.
 use mathlib.Core.Path.{◌≡◌, sym, ◌∙◌}
 use mathlib.Core.Bool.{true, false, not, ◌&&◌}
 use Rattle.component.specs.Checks.{unpacks, transforms, sizes_in_range, depth_in_range, wavelet_in_range, codeblocks_in_range}
 use Rattle.component.proofs.ChecksLaws.{refused-1, refused-2, refused-3, refused-4, refused-5, refused_none}
-use Rattle.component.proofs.checks.refusal.Goals as goal
-use Rattle.component.proofs.checks.refusal.Goals.{Else-codeblocks_refused, Else-not-depth_in_range, Else-not-sizes_in_range, Else-wavelet_refused}
+use Rattle.component.proofs.checks.check.Goals as goal
+use Rattle.component.proofs.checks.check.Goals.{Else-codeblocks_refused, Else-not-depth_in_range, Else-not-sizes_in_range, Else-wavelet_refused}
 
 pub returns-then-not-sizes_in_range : goal.returns-then-not-sizes_in_range
 returns-then-not-sizes_in_range c = refused-1 _ _ _ (sym c.sizes_in_range.ensures ∙ c.if-not-sizes_in_range.true)
