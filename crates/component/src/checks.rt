@@ -10,6 +10,7 @@ use base::limits;
 use base::status::Refusal;
 
 // The first of refusals 1 to 5 that applies to a job, in the order of their numbers.
+#[tactic(auto, unfolding(crate::specs::Checks::refusal_of))]
 pub fn check(job: Job, p: Parameters, lengths: Lengths) -> Result<(), Refusal>
     ensures { status_of result ≡ refusal_of job p lengths }
 {

@@ -56,9 +56,9 @@ impl From<Result<usize, Refused>> for Answer {
 }
 
 impl From<Result<(), Refused>> for Answer {
-    ghost use Rattle.component.specs.Answers.{answer_without_place};
+    ghost use Rattle.component.specs.Answers.{bare_answer_of};
 
-    ghost from_gives = { λ r a. a ≡ answer_without_place r };
+    ghost from_gives = { λ r a. a ≡ bare_answer_of r };
 
     fn from(outcome: Result<(), Refused>) -> Answer {
         Answer::from(outcome.map(|()| 0))

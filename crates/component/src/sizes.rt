@@ -30,6 +30,7 @@ pub fn padded_height(p: Parameters) -> usize
 }
 
 // The width or height of a level's bands, from the padded one.
+#[tactic(auto, unfolding(crate::specs::Sizes::band_size))]
 pub fn band_size(depth: usize, padded: usize, level: usize) -> usize
     requires { (depth ≤ 4) × (level ≤ depth) }
     ensures { result ≡ band_size depth padded level }
