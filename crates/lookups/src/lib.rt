@@ -43,7 +43,8 @@ pub fn is_window(bytes: &[u8], end: usize, at: usize) -> bool
     56 <= end && at <= end - 56 && at / 8 + 7 < bytes.len()
 }
 
-// The 64 bits of eight bytes, with those before bit `at` shifted out: the next 56 bits are at the top.
+// The 64 bits of eight bytes, with those before bit `at` shifted out: the next 56 bits are at the top. The bytes named one by one are loaded at
+// once; first_chunk tests their number a second time when it runs.
 pub fn window(bytes: &[u8], at: usize) -> u64
     requires { at / 8 + 7 < length bytes.now }
     ensures { result ≡ window_of bytes.now at }
