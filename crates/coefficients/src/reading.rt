@@ -1,11 +1,6 @@
 // What reading is about: how far it has come, where it stands in its data, and what it fills.
 
-// On, at a bit of the data; or refused, with the refusal's number and the bit at which it arose, counted from the start of all the bytes.
-#[derive(Clone, Copy)]
-pub enum Progress {
-    At { bit: usize },
-    Refused { status: u32, bit: usize },
-}
+use base::status::Fault;
 
 // A position in data: the next bit, and the bit at which the data end. Past data of a stated length bits read as 1; other data are what is at
 // hand of longer ones. The data's first bit is bit `origin` of all the bytes.
@@ -17,11 +12,12 @@ pub struct Cursor {
     pub origin: usize,
 }
 
-// How many values were read, how far reading has come, and whether reading stopped for want of bits.
+// How many values were read, the bit that reading has come to or its refusal, and whether reading stopped for want of bits. A refusal's bit is
+// counted from the start of all the bytes.
 #[derive(Clone, Copy)]
 pub struct Portion {
     pub count: usize,
-    pub progress: Progress,
+    pub progress: Result<usize, Fault>,
     pub short: bool,
 }
 

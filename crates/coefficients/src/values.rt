@@ -12,10 +12,10 @@ ghost use Rattle.coefficients.specs.Portions.{Sound, not_read, Reads, AllRead};
 ghost use Rattle.coefficients.specs.Batches.{ReadsWithin};
 
 use crate::quantiser::{Quantiser, dequantised, small_fit};
-use crate::reading::{Cursor, Portion, Progress};
+use crate::reading::{Cursor, Portion};
 use base::signed;
-use base::status::VALUE_OUT_OF_RANGE;
-use exp_golomb::codes::{Number, read_signed, status};
+use base::status::{Fault, Refusal};
+use exp_golomb::codes::{Number, read_signed};
 use lookups::{first_bits, first_value, is_window, lookup_at, starts_with_ones, window};
 
 // Where values go: value i to entry start + i + floor(i · reciprocal / 2^24) · gap, for i below count.
@@ -56,18 +56,17 @@ pub fn read_run(
     while i < layout.count {
         let part = read_some(plane, layout, i, bytes, next, q, table, small);
         i += part.count;
-        let progress = part.progress;
-        let Progress::At { bit } = progress else {
+        let Ok(bit) = part.progress else {
             return Portion {
                 count: i - from,
-                progress,
+                progress: part.progress,
                 short: false,
             };
         };
         if part.short {
             return Portion {
                 count: i - from,
-                progress,
+                progress: part.progress,
                 short: true,
             };
         }
@@ -75,7 +74,7 @@ pub fn read_run(
     }
     Portion {
         count: i - from,
-        progress: Progress::At { bit: next.bit },
+        progress: Ok(next.bit),
         short: false,
     }
 }
@@ -126,9 +125,7 @@ fn read_window(
     }
     Portion {
         count: batch.count,
-        progress: Progress::At {
-            bit: cursor.bit + batch.bits,
-        },
+        progress: Ok(cursor.bit + batch.bits),
         short: false,
     }
 }
@@ -341,16 +338,16 @@ pub fn not_read(number: Number, cursor: Cursor) -> Portion
     let Number::TooLong { next } = number else {
         return Portion {
             count: 0,
-            progress: Progress::At { bit: cursor.bit },
+            progress: Ok(cursor.bit),
             short: true,
         };
     };
     Portion {
         count: 1,
-        progress: Progress::Refused {
-            status: status(number),
+        progress: Err(Fault {
+            refusal: Refusal::CodeTooLong,
             bit: cursor.origin + next,
-        },
+        }),
         short: false,
     }
 }
@@ -364,18 +361,18 @@ pub fn store_value(
     next: usize,
     q: Quantiser,
     origin: usize,
-) -> Progress
+) -> Result<usize, Fault>
     requires { (index < length plane.old) × Bounded q × (origin + next < 2 ^ 63) }
     ensures { after result plane.new
         ≡ store origin (with_sign (scale_of q size) minus) (λ v l. set l index v) next plane.old }
 {
     let v = signed::with_sign(dequantised(q, size), minus);
     if !signed::fits_i32(v) {
-        return Progress::Refused {
-            status: VALUE_OUT_OF_RANGE,
+        return Err(Fault {
+            refusal: Refusal::ValueOutOfRange,
             bit: origin + next,
-        };
+        });
     }
     plane[index] = signed::narrow(v);
-    Progress::At { bit: next }
+    Ok(next)
 }

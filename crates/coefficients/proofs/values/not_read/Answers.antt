@@ -13,4 +13,4 @@ overflow_add-result c = omega (arith, rw c.in-TooLong.is at c.requires)
 
 pub returns : goal.returns
 returns c =
-    not-read-long c.args.number c.args.cursor _ _ c.in-TooLong.is c.status.ensures
+    not-read-long c.args.number c.args.cursor _ c.in-TooLong.is
