@@ -27,7 +27,7 @@ pub store_value-progress-requires : goal.store_value-progress-requires
 store_value-progress-requires c =
     let close_to_end = number-before _ c.args.cursor c.read_signed-number.result c.read_signed-number.ensures c.requires.2.before_end in
     let next-is = c.in-Read.is in
-    (rw c.index_at-index.ensures (c.requires.1.inside _ c.requires.0), c.requires.3, omega (arith, rw next-is at close_to_end, c.requires.2.small))
+    (rw c.index_at-index.ensures (c.requires.1.inside _ c.requires.0), omega (arith, rw next-is at close_to_end, c.requires.2.small))
 
 pub returns : goal.returns
 returns c =
