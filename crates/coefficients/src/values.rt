@@ -1,8 +1,8 @@
 // Document 01, "One subband": values, each a signed number, that go one after the other to entries of a plane. Small values are looked up,
 // many at once; the entries hold zeros, so a 0 needs no store.
-ghost use Rattle.std.specs.Prelude.{◌≡◌, true, false, ◌+◌, ◌-◌, ◌≤◌, ◌<◌, ◌^◌, length, set};
+ghost use Rattle.std.specs.Prelude.{◌≡◌, true, false, Err, ◌+◌, ◌-◌, ◌≤◌, ◌<◌, ◌^◌, length, set};
 ghost use Rattle.base.specs.Sign.{with_sign};
-ghost use Rattle.exp_golomb.specs.Codes.{next_of};
+ghost use Rattle.exp_golomb.specs.Codes.{Number, result_of};
 ghost use Rattle.lookups.specs.Windows.{is_window};
 ghost use Rattle.coefficients.specs.Reading.{store};
 ghost use Rattle.coefficients.specs.Scaling.{scale_of, small_fit};
@@ -14,7 +14,7 @@ use crate::quantiser::{dequantised, small_fit};
 use crate::reading::{Cursor, Portion, Quantiser};
 use base::signed;
 use base::status::{Fault, Refusal};
-use exp_golomb::codes::{Number, read_signed};
+use exp_golomb::codes::{ReadNumber, read_signed};
 use lookups::{first_bits, first_value, is_window, lookup_at, starts_with_ones, window};
 
 // Where values go: value i to entry start + i + floor(i · reciprocal / 2^24) · gap, for i below count.
@@ -309,38 +309,38 @@ fn read_value(
     ensures read { Reads bytes.now cursor (scale_of q) (index_of layout) i plane.old result plane.new }
     ensures some { (result.count ≤ 1) × (result.short ≡ false → 1 ≤ result.count) }
 {
-    let number = read_signed(bytes, cursor.end, cursor.stated, cursor.bit);
-    let Number::Read { size, minus, next } = number else {
-        return not_read(number, cursor);
-    };
-    let index = index_at(layout, i);
-    let progress = store_value(plane, index, size, minus, next, q, cursor.origin);
-    Portion {
-        count: 1,
-        progress,
-        short: false,
+    match read_signed(bytes, cursor.end, cursor.stated, cursor.bit) {
+        Ok(number) => {
+            let index = index_at(layout, i);
+            Portion {
+                count: 1,
+                progress: store_value(plane, index, number, q, cursor.origin),
+                short: false,
+            }
+        }
+        Err(fault) => not_read(fault, cursor),
     }
 }
 
 // What follows where no number was read: its refusal, or, where a bit is missing, that it is not all there.
-pub fn not_read(number: Number, cursor: Cursor) -> Portion
-    requires { cursor.origin + next_of number < 2 ^ 63 }
-    ensures { result ≡ not_read number cursor }
+pub fn not_read(fault: Fault, cursor: Cursor) -> Portion
+    requires { cursor.origin + fault.bit < 2 ^ 63 }
+    ensures { (number : Number) → Err fault ≡ result_of number → result ≡ not_read number cursor }
 {
-    let Number::TooLong { next } = number else {
-        return Portion {
+    match fault.refusal {
+        Refusal::CodeTooLong => Portion {
+            count: 1,
+            progress: Err(Fault {
+                bit: cursor.origin + fault.bit,
+                ..fault
+            }),
+            short: false,
+        },
+        _ => Portion {
             count: 0,
             progress: Ok(cursor.bit),
             short: true,
-        };
-    };
-    Portion {
-        count: 1,
-        progress: Err(Fault {
-            refusal: Refusal::CodeTooLong,
-            bit: cursor.origin + next,
-        }),
-        short: false,
+        },
     }
 }
 
@@ -348,23 +348,21 @@ pub fn not_read(number: Number, cursor: Cursor) -> Portion
 pub fn store_value(
     plane: &mut [i32],
     index: usize,
-    size: u32,
-    minus: bool,
-    next: usize,
+    number: ReadNumber,
     q: Quantiser,
     origin: usize,
 ) -> Result<usize, Fault>
-    requires { (index < length plane.old) × (origin + next < 2 ^ 63) }
+    requires { (index < length plane.old) × (origin + number.next < 2 ^ 63) }
     ensures { after result plane.new
-        ≡ store origin (with_sign (scale_of q size) minus) (λ v l. set l index v) next plane.old }
+        ≡ store origin (with_sign (scale_of q number.size) number.minus) (λ v l. set l index v) number.next plane.old }
 {
-    let v = signed::with_sign(dequantised(q, size), minus);
-    if !signed::fits_i32(v) {
+    let v = signed::with_sign(dequantised(q, number.size), number.minus);
+    let Ok(value) = i32::try_from(v) else {
         return Err(Fault {
             refusal: Refusal::ValueOutOfRange,
-            bit: origin + next,
+            bit: origin + number.next,
         });
-    }
-    plane[index] = signed::narrow(v);
-    Ok(next)
+    };
+    plane[index] = value;
+    Ok(number.next)
 }
