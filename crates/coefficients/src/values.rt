@@ -182,8 +182,7 @@ fn read_many(plane: &mut [i32], layout: Layout, from: usize, window: u64, decode
     let mut w = window;
     let mut i = from;
     let mut bits = 0;
-    let mut k: usize = 0;
-    while k < 7 {
+    for _ in 0..7usize {
         let next = lookup_at(decoder.table, w);
         if next.bits == 0 {
             return Batch {
@@ -192,12 +191,10 @@ fn read_many(plane: &mut [i32], layout: Layout, from: usize, window: u64, decode
             };
         }
         let index = index_at(layout, i + next.zeros);
-        let value = next.value;
-        plane[index] = decoder.small[value];
-        w = w << next.bits;
+        plane[index] = decoder.small[next.value];
+        w <<= next.bits;
         i += next.count;
         bits += next.bits;
-        k += 1;
     }
     Batch {
         count: i - from,
@@ -217,9 +214,8 @@ fn read_codes(
     ensures { ReadsWithin window decoder.entry.small.now layout from plane.old result plane.new }
 {
     let mut w = window;
-    let mut i = from;
     let mut bits = 0;
-    while i < layout.count {
+    for i in from..layout.count {
         let lookup = lookup_at(decoder.table, w);
         let taken = first_bits(lookup);
         if taken == 0 {
@@ -229,14 +225,12 @@ fn read_codes(
             };
         }
         let index = index_at(layout, i);
-        let value = first_value(lookup);
-        plane[index] = decoder.small[value];
-        w = w << taken;
+        plane[index] = decoder.small[first_value(lookup)];
+        w <<= taken;
         bits += taken;
-        i += 1;
     }
     Batch {
-        count: i - from,
+        count: layout.count - from,
         bits,
     }
 }
@@ -255,8 +249,7 @@ fn read_lookups(
     let mut w = window;
     let mut i = from;
     let mut bits = 0;
-    let mut k: usize = 0;
-    while k < 7 {
+    for _ in 0..7usize {
         let lookup = lookup_at(decoder.table, w);
         let to = i + lookup.zeros;
         if layout.count <= to {
@@ -272,12 +265,10 @@ fn read_lookups(
             };
         }
         let index = index_at(layout, to);
-        let value = lookup.value;
-        plane[index] = decoder.small[value];
-        w = w << lookup.bits;
+        plane[index] = decoder.small[lookup.value];
+        w <<= lookup.bits;
         i += lookup.count;
         bits += lookup.bits;
-        k += 1;
     }
     Batch {
         count: i - from,
