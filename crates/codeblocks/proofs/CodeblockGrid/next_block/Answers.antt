@@ -1,10 +1,10 @@
--- `codeblocks::next_block` meets its contract: in a row of codeblocks it goes on from the one before, and at a row's start it computes the
+-- `codeblocks::CodeblockGrid::next_block` meets its contract: in a row of codeblocks it goes on from the one before, and at a row's start it computes the
 -- codeblock anew.
 use native.Mathlib.Omega.{arith}
 use Rattle.component.proofs.ReciprocalLaws.{reciprocal-small}
 use Rattle.codeblocks.proofs.BlocksLaws.{column-before, BesideBefore, beside}
-use Rattle.codeblocks.proofs.next_block.Goals as goal
-use Rattle.codeblocks.proofs.next_block.Goals.{After-part_start_by-right}
+use Rattle.codeblocks.proofs.CodeblockGrid.next_block.Goals as goal
+use Rattle.codeblocks.proofs.CodeblockGrid.next_block.Goals.{After-part_start_by-right}
 
 pub overflow_add-x : goal.overflow_add-x
 overflow_add-x c =
@@ -13,13 +13,13 @@ overflow_add-x c =
 pub part_start_by-right-requires : goal.part_start_by-right-requires
 part_start_by-right-requires c =
     let counted = c.requires.0 in
-    (omega (arith, counted.wide, counted.narrow), omega (arith, c.requires.3, reciprocal-small c.args.blocks.across), omega (arith, c.if-blocks-x.false, counted.across_most))
+    (omega (arith, counted.wide, counted.narrow), omega (arith, c.requires.3, reciprocal-small c.args.self.across), omega (arith, c.if-self-x.false, counted.across_most))
 
 -- the codeblock goes on in its row
 in_row : (c : After-part_start_by-right) →
-    BesideBefore c.args.blocks c.args.m c.args.before c.part_start_by-right.result
+    BesideBefore c.args.self c.args.m c.args.before c.part_start_by-right.result
 in_row c =
-    beside c.args.blocks c.requires.0 c.args.m c.args.before _ c.requires.1 c.requires.2 (omega (arith, c.if-blocks-x.false)) (c.part_start_by-right.ensures _ c.requires.0.across_least c.requires.0.across_most c.requires.3)
+    beside c.args.self c.requires.0 c.args.m c.args.before _ c.requires.1 c.requires.2 (omega (arith, c.if-self-x.false)) (c.part_start_by-right.ensures _ c.requires.0.across_least c.requires.0.across_most c.requires.3)
 
 pub overflow_add-area : goal.overflow_add-area
 overflow_add-area c = omega (arith, (in_row (goal.at.overflow_add-area c).After-part_start_by-right).small)
