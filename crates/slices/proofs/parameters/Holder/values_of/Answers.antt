@@ -1,6 +1,6 @@
--- `slices::stores::values_of` meets its contract, for either holder.
+-- `slices::parameters::Holder::values_of` meets its contract, for either holder.
 use native.Mathlib.Omega.{arith}
-use Rattle.slices.proofs.stores.values_of.Goals as goal
+use Rattle.slices.proofs.parameters.Holder.values_of.Goals as goal
 
 pub returns-in-Luma : goal.returns-in-Luma
 returns-in-Luma c = rw c.in-Luma.is (omega arith)
