@@ -6,7 +6,6 @@ use mathlib.Core.Logic.{◌≢◌}
 use mathlib.Core.Bool.{Bool, true, false, cond}
 use mathlib.Core.List.{List}
 use Prim.Native.Nat.{ℕ, zero, suc, ◌+◌, ◌-◌, ◌*◌, ◌^◌, ◌≤◌, ◌<◌}
-use native.Mathlib.Nat.{suc-mul}
 use native.Mathlib.Omega.{arith}
 use lib.IntN.{ℤ, pos, nat_abs, ◌+ℤ◌}
 use lib.ListN.{get_or, set}
@@ -40,13 +39,6 @@ sum-fits p q r hp hq hr =
 pub mean-small : (left corner upper : ℤ) → mag left < 2 ^ 31 → mag corner < 2 ^ 31 → mag upper < 2 ^ 31 → nat_abs (mean_of left corner upper) ≤ 2 ^ 34
 unfolding mean_of
 mean-small left corner upper hl hc hu = omega (arith, ints, size-floor (left +ℤ corner +ℤ upper +ℤ pos 1) 3)
-
--- the row above starts a stride earlier
-pub row-above : (y stride : ℕ) → y ≢ 0 → (y - 1) * stride + stride ≡ y * stride
-row-above zero stride other = absurd (other refl)
-row-above (suc y) stride other =
-    let same : suc y - 1 ≡ y = omega arith in
-    rw same (sym (suc-mul y stride))
 
 -- the predictor by the tests of the code: at the corner, in the top row, in the left column and elsewhere
 module _ (stride : ℕ) (plane : List ℤ) where
