@@ -25,7 +25,7 @@ pub fn predict(
 
 // Predicts the values of a row, up to one that does not fit.
 fn predict_row(plane: &mut [i32], stride: usize, width: usize, y: usize) -> Result<(), OutOfRange>
-    requires { (width ≤ stride) × (stride ≤ 4096) × (y < 4096) × (y * stride + width ≤ length plane.old) }
+    requires { (width ≤ stride) × (y * stride + width ≤ length plane.old) }
     ensures { ended (is_ok result) plane.new ≡ predicted_row stride width y (ended true plane.old) }
 {
     for x in 0..width {
@@ -36,7 +36,7 @@ fn predict_row(plane: &mut [i32], stride: usize, width: usize, y: usize) -> Resu
 
 // Predicts one value: adds what its neighbours predict, if the sum fits.
 fn predict_value(plane: &mut [i32], stride: usize, y: usize, x: usize) -> Result<(), OutOfRange>
-    requires { (x < stride) × (stride ≤ 4096) × (y < 4096) × (y * stride + x < length plane.old) }
+    requires { (x < stride) × (y * stride + x < length plane.old) }
     ensures { ended (is_ok result) plane.new ≡ predicted_value stride y x (ended true plane.old) }
 {
     let index = y * stride + x;
@@ -48,7 +48,7 @@ fn predict_value(plane: &mut [i32], stride: usize, y: usize, x: usize) -> Result
 // What the neighbours of a value predict: nothing at the corner, the left one in the top row, the upper one in the left column, and else
 // the mean of three.
 fn predictor_at(plane: &[i32], stride: usize, y: usize, x: usize) -> i64
-    requires { (x < stride) × (stride ≤ 4096) × (y < 4096) × (y * stride + x < length plane.now) }
+    requires { (x < stride) × (y * stride + x < length plane.now) }
     ensures is { result ≡ predictor stride plane.now y x }
     ensures small { nat_abs result ≤ 2 ^ 34 }
 {
