@@ -24,12 +24,6 @@ pub read_slice-requires : goal.read_slice-requires
 read_slice-requires c =
     let inv = c.loop-k.invariant in record { sound = (c.requires.0, c.requires.1, omega (arith, c.loop-k-test, c.slice_count-count.ensures.0)); planes = (lengths-same _ _ _ _ _ _ _ inv.1 inv.2 inv.3 c.requires.2, inv.5); tables = (c.lookup_table-table.ensures, c.fill_small_table.ensures, c.factor_table-factors.ensures) }
 
-pub overflow_add-k : goal.overflow_add-k
-overflow_add-k c = omega (arith, c.loop-k-test)
-
-pub loop-k-smaller : goal.loop-k-smaller
-loop-k-smaller c = omega (arith, c.loop-k-test)
-
 pub loop-k-preserved : goal.loop-k-preserved
 loop-k-preserved c =
     let inv = c.loop-k.invariant in
