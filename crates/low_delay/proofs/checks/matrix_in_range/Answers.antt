@@ -15,9 +15,6 @@ all-taken l n most b long each =
       (λ all. each.1 (λ k h. let below : k < n = rw long at h in rw (get_or-take n l k 0 below) (all k below))),
     )
 
-pub subband_count-count-requires : goal.subband_count-count-requires
-subband_count-count-requires c = c.requires
-
 pub returns : goal.returns
 unfolding matrix_in_range
 returns c =
