@@ -64,6 +64,7 @@ fn refused_at(number: Number) -> Header
 }
 
 // The first bit of a byte, at a bit or after it.
+#[tactic(auto, unfolding(crate::specs::Header::boundary))]
 fn boundary(bit: usize) -> usize
     requires { bit < 2 ^ 63 }
     ensures { result ≡ boundary bit }

@@ -58,9 +58,6 @@ loop-k-preserved c =
       rw told at (whole (goal.at.loop-k-preserved c).After-read_subband),
     )
 
-pub shape_of-plane-in-Refused : goal.shape_of-plane-in-Refused
-shape_of-plane-in-Refused c = c.zero.auto.plane ∙ c.read_subband.auto.plane ∙ c.loop-k.invariant.1
-
 pub returns-in-Refused : goal.returns-in-Refused
 unfolding outcome ended_with
 returns-in-Refused c =
