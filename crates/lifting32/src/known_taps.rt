@@ -10,7 +10,6 @@ ghost use Rattle.lifting32.specs.Pairs.{PairTapsFit};
 use crate::loops::{lift_one, lift_pairs};
 use crate::pairs::pair_tap;
 use crate::{LineStep, PairedLine};
-use base::signed;
 
 // Lifts a line by one tap: Haar's is 1.
 pub fn lift_single(
@@ -24,7 +23,7 @@ pub fn lift_single(
     ensures { plane.new ≡ lifted_by_taps plane.old line taps.now starts.now 1 adds }
 {
     let source = starts[0];
-    let tap = signed::narrow(taps[0]);
+    let tap = taps[0] as i32;
     if tap == 1 {
         if adds {
             lift_one(plane, line, source, tap, adds);
