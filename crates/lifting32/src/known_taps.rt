@@ -35,8 +35,8 @@ pub fn lift_single(
     lift_one(plane, line, source, tap, adds);
 }
 
-#[tactic(auto, using(crate::proofs::LiftableLaws::widened))]
 // Lifts a line by one pair of taps: of LeGall (5,3) and Deslauriers-Dubuc (9,7), which are 1, or of Daubechies (9,7), which are long.
+#[tactic(auto, using(crate::proofs::LiftableLaws::widened))]
 pub fn lift_one_pair(plane: &mut [i32], paired: PairedLine, tap: i32, adds: bool, narrow: bool)
     requires { LiftableByPairs plane.old paired tap (pos 0) (pos 0) (pos 0) adds narrow }
     ensures { plane.new ≡ lifted_by_pairs plane.old paired tap (pos 0) (pos 0) (pos 0) adds }
