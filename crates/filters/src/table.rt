@@ -1,5 +1,5 @@
 // Document 01, "Lifting": the table of seven filters.
-ghost use Rattle.std.specs.Prelude.{◌≡◌, cond, ℕ, ◌+◌, ◌^◌, ◌≤◌, ◌<◌, pos, nat_abs, length, get_or, take};
+ghost use Rattle.std.specs.Prelude.{◌≡◌, ℕ, ◌+◌, ◌^◌, ◌≤◌, ◌<◌, pos, nat_abs, length, get_or, take};
 ghost use Rattle.std.specs.Int.Signed.{mag};
 ghost use Rattle.filters.specs.Lifting.{changes_even, adds};
 ghost use Rattle.filters.specs.Filters.{filter_of};
