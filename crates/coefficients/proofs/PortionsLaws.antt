@@ -2,6 +2,7 @@
 -- Assumes nothing.
 use mathlib.Core.Path.{◌≡◌, refl, sym, ap, ◌∙◌}
 use mathlib.Core.Bool.{Bool, true, false}
+use mathlib.Core.Logic.{◌≢◌}
 use mathlib.Core.List.{List}
 use Prim.Native.Nat.{ℕ, ◌+◌, ◌-◌, ◌≤◌, ◌<◌}
 use native.Mathlib.Omega.{arith}
@@ -12,11 +13,9 @@ use Rattle.std.proofs.lemmas.Bool.{true≢false}
 use Rattle.base.specs.Range.{fits32}
 use Rattle.base.specs.Sign.{with_sign}
 use Rattle.base.specs.declared.status.Fault.{Fault}
-use Rattle.base.specs.declared.status.Refusal.TheVariants.{CodeTooLong}
+use Rattle.base.specs.declared.status.Refusal.TheVariants.{BytesEndEarly, CodeTooLong}
 use Rattle.exp_golomb.specs.Begins.{Begins}
-use Rattle.exp_golomb.specs.Codes.{next_of, signed}
-use Rattle.exp_golomb.specs.declared.codes.Number.{Number}
-use Rattle.exp_golomb.specs.declared.codes.Number.TheVariants.{Read, Missing, TooLong}
+use Rattle.exp_golomb.specs.Codes.{Number, Read, Missing, TooLong, result_of, next_of, signed}
 use Rattle.exp_golomb.proofs.Extent.{signed-before, signed-short}
 use Rattle.exp_golomb.proofs.Moved.{signed-whole}
 use Rattle.exp_golomb.proofs.BeginsLaws.{signed-begins, begins-itself}
@@ -58,20 +57,27 @@ store-next origin v put next plane progress last bit stored on = by (fits32 v) r
         absurd (omega arith)
 
 -- a number ends no later than the data
-pub number-before : (bytes : List ℕ) (c : Cursor) (number : Number) → number ≡ signed bytes c.end c.stated c.bit → c.bit ≤ c.end → next_of number ≤ c.end
-number-before bytes c number is inside = rw is (signed-before bytes c.end c.stated c.bit inside)
+pub number-before : (bytes : List ℕ) (c : Cursor) → c.bit ≤ c.end → next_of (signed bytes c.end c.stated c.bit) ≤ c.end
+number-before bytes c inside = signed-before bytes c.end c.stated c.bit inside
 
 -- where no number was read: a bit is missing, or the code is too long
-pub not-read-short : (number : Number) (c : Cursor) → ((next : ℕ) → number ≡ TooLong next → ⊥) → record { count = 0; progress = Ok c.bit; short = true } ≡ not_read number c
+pub not-read-short : (number : Number) (fault : Fault) (c : Cursor) → Err fault ≡ result_of number → fault.refusal ≢ CodeTooLong →
+    record { count = 0; progress = Ok c.bit; short = true } ≡ not_read number c
 unfolding not_read
-not-read-short (Read size minus next) c other = refl
-not-read-short (Missing next) c other = refl
-not-read-short (TooLong next) c other = absurd (other next refl)
+not-read-short (Read size minus next) fault c is other = refl
+not-read-short (Missing next) fault c is other = refl
+not-read-short (TooLong next) fault c is other = absurd (other cc)
 
-pub not-read-long : (number : Number) (c : Cursor) (next : ℕ) → number ≡ TooLong next →
-    record { count = 1; progress = Err (record { refusal = CodeTooLong; bit = c.origin + next }); short = false } ≡ not_read number c
+pub not-read-long : (number : Number) (fault : Fault) (c : Cursor) → Err fault ≡ result_of number → fault.refusal ≡ CodeTooLong →
+    record { count = 1; progress = Err (record { refusal = fault.refusal; bit = c.origin + fault.bit }); short = false } ≡ not_read number c
 unfolding not_read
-not-read-long number c next e = rw e refl
+not-read-long (Read size minus next) fault c is long = cc
+not-read-long (Missing next) fault c is long =
+    let never : BytesEndEarly ≡ CodeTooLong = cc in
+    cc
+not-read-long (TooLong next) fault c is long =
+    let same : fault ≡ record { refusal = CodeTooLong; bit = next } = cc in
+    rw same refl
 
 pub not-read-some : (number : Number) (c : Cursor) → ((not_read number c).count ≤ 1) × ((not_read number c).short ≡ false → 1 ≤ (not_read number c).count)
 unfolding not_read
@@ -94,7 +100,7 @@ module _ (bytes : List ℕ) (c : Cursor) (scale index : ℕ → ℕ) (i : ℕ) (
             ∙ sym stored;
         before_end = λ bit on.
             let there : bit ≡ next = store-next c.origin (with_sign (scale size) minus) (λ v l. set l (index i) v) next plane progress last bit stored on in
-            let close_to_end : next_of (Read size minus next) ≤ c.end = rw read at (number-before bytes c number is inside) in
+            let close_to_end : next_of (Read size minus next) ≤ c.end = rw (sym is ∙ read) at (number-before bytes c inside) in
             omega arith;
         close_to_end = λ e. absurd (true≢false (sym e));
         full = λ e. refl;

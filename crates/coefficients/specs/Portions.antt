@@ -3,8 +3,7 @@ use Rattle.std.specs.Prelude.{ℕ, ◌+◌, ◌*◌, ◌≤◌, ◌<◌, ◌^◌
 use Rattle.base.specs.declared.status.Fault.{Fault}
 use Rattle.base.specs.declared.status.Refusal.TheVariants.{CodeTooLong}
 use Rattle.exp_golomb.specs.Begins.{Begins}
-use Rattle.exp_golomb.specs.declared.codes.Number.{Number}
-use Rattle.exp_golomb.specs.declared.codes.Number.TheVariants.{Read, Missing, TooLong}
+use Rattle.exp_golomb.specs.Codes.{Number, Read, Missing, TooLong}
 use Rattle.coefficients.specs.Reading.{goes_on}
 use Rattle.coefficients.specs.Values.{after, entries}
 use Rattle.coefficients.specs.declared.reading.Cursor.{Cursor}

@@ -6,9 +6,7 @@ use Rattle.base.specs.Sign.{with_sign}
 use Rattle.base.specs.Walk.{walk}
 use Rattle.base.specs.Refusals.{number_of}
 use Rattle.base.specs.declared.status.Fault.{Fault}
-use Rattle.exp_golomb.specs.Codes.{status_of, signed}
-use Rattle.exp_golomb.specs.declared.codes.Number.{Number}
-use Rattle.exp_golomb.specs.declared.codes.Number.TheVariants.{Read, Missing, TooLong}
+use Rattle.exp_golomb.specs.Codes.{Number, Read, Missing, TooLong, status_of, signed}
 use Rattle.coefficients.specs.declared.reading.Rectangle.{Rectangle}
 
 -- On, at a bit of the data; or refused, with the refusal's number and the bit at which it arose, counted from the start of all the bytes.

@@ -5,8 +5,8 @@ use Rattle.base.specs.Walk.{walk}
 use Rattle.base.specs.declared.status.Fault.{Fault}
 use Rattle.lookups.specs.Lookups.{KnowsCodes}
 use Rattle.coefficients.specs.Reading.{Run, progress_of, value}
-use Rattle.coefficients.specs.Scaling.{scale_of, Bounded, small_fit, Small}
-use Rattle.coefficients.specs.declared.quantiser.Quantiser.{Quantiser}
+use Rattle.coefficients.specs.Scaling.{scale_of, small_fit, Small}
+use Rattle.coefficients.specs.declared.reading.Quantiser.{Quantiser}
 use Rattle.coefficients.specs.declared.values.Layout.{Layout}
 
 -- What a call left: how far it came, and the plane.
@@ -39,6 +39,5 @@ pub record Ready (l : Layout) (i : ℕ) (plane : List ℤ) : Type 0 where
 
 -- What values are decoded by: a quantiser, a table of codes, and the small values.
 pub record Decoding (q : Quantiser) (table : List ℕ) (small : List ℤ) : Type 0 where
-  pub bounded : Bounded q
   pub knows : KnowsCodes table
   pub small_values : small_fit q ≡ true → Small (scale_of q) small

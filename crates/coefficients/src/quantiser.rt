@@ -2,23 +2,17 @@
 ghost use Rattle.std.specs.Prelude.{◌≡◌, true, ◌≤◌, ◌<◌, ◌^◌};
 ghost use Rattle.coefficients.specs.Quantiser.{quant_factor, quant_offset, dequantise};
 ghost use Rattle.coefficients.specs.Factors.{KnowsFactors};
-ghost use Rattle.coefficients.specs.Scaling.{scale_of, Bounded, small_fit, Small};
+ghost use Rattle.coefficients.specs.Scaling.{scale_of, small_fit, Small};
 
 use crate::factors::FACTORS;
+use crate::reading::Quantiser;
 use base::signed;
-
-// What a size is dequantised by.
-#[derive(Clone, Copy)]
-pub struct Quantiser {
-    pub factor: u64,
-    pub offset: u64,
-}
 
 // The quantiser of an index, in a picture that is intra or not. Its numbers are free: whatever they are, sizes become what the index makes of
 // them in such a picture.
 pub fn quantiser_of(intra: bool, index: u32) -> Quantiser
     requires { index ≤ 115 }
-    ensures { (scale_of result ≡ dequantise intra index) × Bounded result }
+    ensures { scale_of result ≡ dequantise intra index }
 {
     let factor = quant_factor(index);
     let offset = quant_offset(intra, index, factor);
@@ -28,7 +22,7 @@ pub fn quantiser_of(intra: bool, index: u32) -> Quantiser
 // The same, where the factors of all indices are at hand.
 pub fn quantiser_by(factors: &[u32; 116], intra: bool, index: u32) -> Quantiser
     requires { (index ≤ 115) × KnowsFactors factors.now }
-    ensures { (scale_of result ≡ dequantise intra index) × Bounded result }
+    ensures { scale_of result ≡ dequantise intra index }
 {
     let factor = factors[index as usize] as u64;
     let offset = quant_offset(intra, index, factor);
@@ -37,7 +31,6 @@ pub fn quantiser_by(factors: &[u32; 116], intra: bool, index: u32) -> Quantiser
 
 // A size that was read, dequantised.
 pub fn dequantised(q: Quantiser, size: u32) -> u64
-    requires { Bounded q }
     ensures { (result ≡ scale_of q size) × (result < 2 ^ 63) }
 {
     if size == 0 {
@@ -49,7 +42,6 @@ pub fn dequantised(q: Quantiser, size: u32) -> u64
 
 // Whether every size below 15, dequantised, fits a plane.
 pub fn small_fit(q: Quantiser) -> bool
-    requires { Bounded q }
     ensures { result ≡ small_fit q }
 {
     dequantised(q, 14) < 2147483648
@@ -58,7 +50,6 @@ pub fn small_fit(q: Quantiser) -> bool
 // The dequantised values of the sizes below 15, each above and below 0, where all of them fit a plane; where one does not, they are of no
 // use, and what stands there is free. The last two entries are free, too.
 pub fn small_values(q: Quantiser) -> [i32; 32]
-    requires { Bounded q }
     ensures { small_fit q ≡ true → Small (scale_of q) result }
 {
     let mut small = [0; 32];

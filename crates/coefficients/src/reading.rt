@@ -1,4 +1,5 @@
-// What reading is about: how far it has come, where it stands in its data, and what it fills.
+// What reading is about: how far it has come, where it stands in its data, what it fills, and what sizes are dequantised by.
+ghost use Rattle.std.specs.Prelude.{◌<◌, ◌^◌};
 
 use base::status::Fault;
 
@@ -28,4 +29,13 @@ pub struct Rectangle {
     pub stride: usize,
     pub width: usize,
     pub height: usize,
+}
+
+// What a size is dequantised by: so small that every size of 32 bits has room in 63.
+#[derive(Clone, Copy)]
+pub struct Quantiser {
+    pub factor: u64,
+    pub offset: u64,
+    pub ghost factor_small: { factor < 2 ^ 31 },
+    pub ghost offset_small: { offset < 2 ^ 31 },
 }

@@ -19,10 +19,11 @@ quant_offset-offset-requires c = (c.requires.0, known (goal.at.quant_offset-offs
 
 pub returns : goal.returns
 unfolding dequantise
-returns c = (
-  rw (known (goal.at.returns c).Start, c.quant_offset-offset.ensures),
-  record {
-    factor_most = rw (known (goal.at.returns c).Start) (factor-below c.args.index c.requires.0);
-    offset_most = rw c.quant_offset-offset.ensures (offset-below c.args.intra c.args.index c.requires.0);
-  },
-)
+returns c = rw (known (goal.at.returns c).Start, c.quant_offset-offset.ensures)
+
+pub invariant_of-result : goal.invariant_of-result
+invariant_of-result c =
+    record {
+      factor_small = rw (known (goal.at.invariant_of-result c).Start) (factor-below c.args.index c.requires.0);
+      offset_small = rw c.quant_offset-offset.ensures (offset-below c.args.intra c.args.index c.requires.0);
+    }

@@ -39,11 +39,11 @@ inside : (c : After-first_value-value) → c.index_at-index.result < length c.lo
 inside c =
     rw (c.index_at-index.ensures, c.loop-i.invariant.2.same) (c.requires.1.inside _ c.loop-i-test.true)
 
-pub offset_bounds-small-value : goal.offset_bounds-small-value
-offset_bounds-small-value c = omega (arith, value_most (goal.at.offset_bounds-small-value c).After-first_value-value)
+pub offset_bounds-decoder-value : goal.offset_bounds-decoder-value
+offset_bounds-decoder-value c = omega (arith, value_most (goal.at.offset_bounds-decoder-value c).After-first_value-value)
 
-pub bounds-small-value : goal.bounds-small-value
-bounds-small-value c = omega (arith, value_most (goal.at.bounds-small-value c).After-first_value-value)
+pub bounds-decoder-value : goal.bounds-decoder-value
+bounds-decoder-value c = omega (arith, value_most (goal.at.bounds-decoder-value c).After-first_value-value)
 
 pub offset_bounds-plane-index : goal.offset_bounds-plane-index
 offset_bounds-plane-index c = omega (arith, inside (goal.at.offset_bounds-plane-index c).After-first_value-value)
@@ -73,7 +73,7 @@ loop-i-preserved c =
     let below = c.loop-i-test.true in (
       omega (arith, c.loop-i.invariant.0, c.loop-i.invariant.2.started, bits_most (goal.at.loop-i-preserved c).After-first_value-value),
       omega (arith, below),
-      rw (back w32 (get_or c.args.small.now c.first_value-value.result (pos 0)) c.plane-1.given, c.index_at-index.ensures)
+      rw (back w32 (get_or c.args.decoder.small.now c.first_value-value.result (pos 0)) c.plane-1.given, c.index_at-index.ensures)
           (taken-code _ _ _ _ _ c.requires.1 _ _ _ _ _ (few (goal.at.loop-i-preserved c).After-first_value-value) c.loop-i.invariant.2 c.lookup_at-lookup.ensures _ _ c.first_value-value.ensures
           c.first_bits-taken.ensures c.if-taken-eq0.false below),
     )

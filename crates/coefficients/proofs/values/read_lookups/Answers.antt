@@ -10,28 +10,28 @@ use Rattle.coefficients.proofs.values.read_lookups.Goals as goal
 use Rattle.coefficients.proofs.values.read_lookups.Goals.{After-index_at-index, At-loop-k}
 
 pub loop-k-init : goal.loop-k-init
-loop-k-init c = (omega arith, omega arith, c.requires.0.counted, taken_none _ _ _ _ _ c.requires.0)
+loop-k-init c = (omega arith, omega arith, c.requires.counted, taken_none _ _ _ _ _ c.requires)
 
 pub overflow_add-to : goal.overflow_add-to
-overflow_add-to c = omega (arith, c.lookup_at-lookup.ensures.zeros_most, c.loop-k.invariant.2, c.requires.0.few)
+overflow_add-to c = omega (arith, c.lookup_at-lookup.ensures.zeros_most, c.loop-k.invariant.2, c.requires.few)
 
 pub overflow_sub-result : goal.overflow_sub-result
-overflow_sub-result c = omega (arith, c.requires.0.counted)
+overflow_sub-result c = omega (arith, c.requires.counted)
 
 pub overflow_sub-result-then-layout-to : goal.overflow_sub-result-then-layout-to
 overflow_sub-result-then-layout-to c = omega (arith, c.loop-k.invariant.2)
 
 pub overflow_add-result : goal.overflow_add-result
 overflow_add-result c =
-    omega (arith, c.loop-k.invariant.0, c.loop-k.invariant.1, c.loop-k.invariant.2, c.requires.0.few)
+    omega (arith, c.loop-k.invariant.0, c.loop-k.invariant.1, c.loop-k.invariant.2, c.requires.few)
 
 pub shape_of-plane-then-layout-to : goal.shape_of-plane-then-layout-to
 shape_of-plane-then-layout-to c = c.loop-k.invariant.3.same
 
 pub returns-then-layout-to : goal.returns-then-layout-to
 returns-then-layout-to c = (
-  omega (arith, c.requires.0.counted),
-  taken-zeros _ _ _ _ _ c.requires.0 _ _ _ _ c.lookup_at-lookup.result (omega (arith, c.loop-k.invariant.1, c.loop-k-test)) c.loop-k.invariant.3 c.lookup_at-lookup.ensures
+  omega (arith, c.requires.counted),
+  taken-zeros _ _ _ _ _ c.requires _ _ _ _ c.lookup_at-lookup.result (omega (arith, c.loop-k.invariant.1, c.loop-k-test)) c.loop-k.invariant.3 c.lookup_at-lookup.ensures
       (c.args.layout.count - c.loop-k.i) _ (omega (arith, c.if-layout-to.true)) (omega (arith, c.loop-k.invariant.2)) (omega (arith, c.loop-k.invariant.2)),
 )
 
@@ -51,7 +51,7 @@ returns-then-lookup-eq0 c =
 
 pub index_at-index-requires : goal.index_at-index-requires
 index_at-index-requires c =
-    let ready = c.requires.0 in
+    let ready = c.requires in
     let below : c.loop-k.i + c.lookup_at-lookup.result.zeros < c.args.layout.count = omega (arith, c.if-layout-to.false) in
     (omega (arith, ready.few), ready.low, omega (arith, ready.inside _ below))
 
@@ -59,13 +59,13 @@ index_at-index-requires c =
 inside : (c : After-index_at-index) → c.index_at-index.result < length c.loop-k.plane
 inside c =
     let below : c.loop-k.i + c.lookup_at-lookup.result.zeros < c.args.layout.count = omega (arith, c.if-layout-to.false) in
-    rw (c.index_at-index.ensures, c.loop-k.invariant.3.same) (c.requires.0.inside _ below)
+    rw (c.index_at-index.ensures, c.loop-k.invariant.3.same) (c.requires.inside _ below)
 
-pub offset_bounds-small-value : goal.offset_bounds-small-value
-offset_bounds-small-value c = omega (arith, c.lookup_at-lookup.ensures.value_most)
+pub offset_bounds-decoder-value : goal.offset_bounds-decoder-value
+offset_bounds-decoder-value c = omega (arith, c.lookup_at-lookup.ensures.value_most)
 
-pub bounds-small-value : goal.bounds-small-value
-bounds-small-value c = omega (arith, c.lookup_at-lookup.ensures.value_most)
+pub bounds-decoder-value : goal.bounds-decoder-value
+bounds-decoder-value c = omega (arith, c.lookup_at-lookup.ensures.value_most)
 
 pub offset_bounds-plane-index : goal.offset_bounds-plane-index
 offset_bounds-plane-index c = omega (arith, inside (goal.at.offset_bounds-plane-index c).After-index_at-index)
@@ -78,7 +78,7 @@ overflow_shl-w c = omega (arith, c.lookup_at-lookup.ensures.bits_most)
 
 pub overflow_add-i : goal.overflow_add-i
 overflow_add-i c =
-    omega (arith, c.loop-k.invariant.2, c.requires.0.few, lookup-count _ _ c.lookup_at-lookup.ensures, c.lookup_at-lookup.ensures.zeros_most)
+    omega (arith, c.loop-k.invariant.2, c.requires.few, lookup-count _ _ c.lookup_at-lookup.ensures, c.lookup_at-lookup.ensures.zeros_most)
 
 pub overflow_add-bits : goal.overflow_add-bits
 overflow_add-bits c =
@@ -96,8 +96,8 @@ loop-k-preserved c =
       omega (arith, c.loop-k-test),
       omega (arith, c.loop-k.invariant.1, c.lookup_at-lookup.ensures.bits_most),
       omega (arith, fits, lookup-count _ _ c.lookup_at-lookup.ensures),
-      rw (back w32 (get_or c.args.small.now c.lookup_at-lookup.result.value (pos 0)) c.plane-1.given, c.index_at-index.ensures)
-          (taken-lookup _ _ _ _ _ c.requires.0 _ _ _ _ _ (omega (arith, c.loop-k.invariant.1, c.loop-k-test)) c.loop-k.invariant.3 c.lookup_at-lookup.ensures fits),
+      rw (back w32 (get_or c.args.decoder.small.now c.lookup_at-lookup.result.value (pos 0)) c.plane-1.given, c.index_at-index.ensures)
+          (taken-lookup _ _ _ _ _ c.requires _ _ _ _ _ (omega (arith, c.loop-k.invariant.1, c.loop-k-test)) c.loop-k.invariant.3 c.lookup_at-lookup.ensures fits),
     )
 
 pub overflow_sub-result-2 : goal.overflow_sub-result-2

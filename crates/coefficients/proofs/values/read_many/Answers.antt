@@ -51,11 +51,11 @@ inside : (c : After-index_at-index) →
 inside c fits =
     rw (c.index_at-index.ensures, c.loop-k.invariant.3.same) (c.requires.1.inside _ fits)
 
-pub offset_bounds-small-value : goal.offset_bounds-small-value
-offset_bounds-small-value c = omega (arith, c.lookup_at-next.ensures.value_most)
+pub offset_bounds-decoder-value : goal.offset_bounds-decoder-value
+offset_bounds-decoder-value c = omega (arith, c.lookup_at-next.ensures.value_most)
 
-pub bounds-small-value : goal.bounds-small-value
-bounds-small-value c = omega (arith, c.lookup_at-next.ensures.value_most)
+pub bounds-decoder-value : goal.bounds-decoder-value
+bounds-decoder-value c = omega (arith, c.lookup_at-next.ensures.value_most)
 
 pub offset_bounds-plane-index : goal.offset_bounds-plane-index
 offset_bounds-plane-index c = omega (arith, inside (goal.at.offset_bounds-plane-index c).After-index_at-index (below (goal.at.offset_bounds-plane-index c).Else-next-eq0))
@@ -85,7 +85,7 @@ loop-k-preserved c = (
   omega (arith, c.loop-k-test),
   omega (arith, c.loop-k.invariant.1, c.lookup_at-next.ensures.bits_most),
   omega (arith, c.loop-k.invariant.2, lookup-count _ _ c.lookup_at-next.ensures, c.lookup_at-next.ensures.zeros_most),
-  rw (back w32 (get_or c.args.small.now c.lookup_at-next.result.value (pos 0)) c.plane-1.given, c.index_at-index.ensures)
+  rw (back w32 (get_or c.args.decoder.small.now c.lookup_at-next.result.value (pos 0)) c.plane-1.given, c.index_at-index.ensures)
       (taken-lookup _ _ _ _ _ c.requires.1 _ _ _ _ _ (omega (arith, c.loop-k.invariant.1, c.loop-k-test)) c.loop-k.invariant.3 c.lookup_at-next.ensures (below (goal.at.loop-k-preserved c).Else-next-eq0)),
 )
 

@@ -16,7 +16,6 @@ read_some-part-requires c =
       omega (arith, c.loop-i-test.true),
       ready-again _ _ _ c.args.layout _ _ c.requires.0 _ _ _ inv.0 inv.1 inv.2 inv.5,
       sound-again _ _ inv.3 inv.4 c.requires.1,
-      c.requires.2,
     )
 
 pub overflow_add-i : goal.overflow_add-i
