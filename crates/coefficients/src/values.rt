@@ -98,10 +98,8 @@ fn read_some(
     ensures read { Reads bytes.now cursor (scale_of decoder.entry.q) (index_of layout) i plane.old result plane.new }
     ensures some { (i + result.count ≤ layout.count) × (result.short ≡ false → 1 ≤ result.count) }
 {
-    if small_fit(decoder.q) {
-        if is_window(bytes, cursor.end, cursor.bit) {
-            return read_window(plane, layout, i, bytes, cursor, decoder);
-        }
+    if small_fit(decoder.q) && is_window(bytes, cursor.end, cursor.bit) {
+        return read_window(plane, layout, i, bytes, cursor, decoder);
     }
     read_value(plane, layout, i, bytes, cursor, decoder.q)
 }
