@@ -35,7 +35,7 @@ pub struct Decoder<'a> {
     pub ghost known: { Decoding q table.now small.now },
 }
 
-// How many values were read, and how many bits they took.
+// How many values were read, maybe none, and how many bits they took.
 #[derive(Clone, Copy)]
 pub struct Batch {
     pub count: usize,
@@ -166,7 +166,7 @@ fn read_batch(
 }
 
 // Reads values by the bits of a window where 63 or more are left: 32 at once where they are zeros; others by at most seven lookups, none of which
-// can pass the layout's end, since each has nine values at most.
+// can pass the layout's end, since each has nine values at most: so no turn asks for the end, which is why these are not `read_lookups`.
 fn read_many(plane: &mut [i32], layout: Layout, from: usize, window: u64, decoder: Decoder) -> Batch
     requires { (from + 63 ≤ layout.count) × Ready layout from plane.old }
     ensures { ReadsWithin window decoder.entry.small.now layout from plane.old result plane.new }

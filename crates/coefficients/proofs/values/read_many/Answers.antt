@@ -7,7 +7,7 @@ use Rattle.base.proofs.RangeLaws.{back}
 use Rattle.lookups.proofs.LookupsLaws.{lookup-count}
 use Rattle.coefficients.proofs.BatchesLaws.{zeros-at-once, taken_none, taken-lookup}
 use Rattle.coefficients.proofs.values.read_many.Goals as goal
-use Rattle.coefficients.proofs.values.read_many.Goals.{After-index_at-index, Else-next-eq0, At-loop}
+use Rattle.coefficients.proofs.values.read_many.Goals.{Else-next-eq0, At-loop}
 
 pub returns-then-starts_with_ones : goal.returns-then-starts_with_ones
 returns-then-starts_with_ones c =
