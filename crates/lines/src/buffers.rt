@@ -67,6 +67,7 @@ fn interleave_part(
 }
 
 // Number x of the row, shifted if asked for.
+#[tactic(auto, unfolding(crate::specs::Buffers::interleaved))]
 fn row_number(halves: &[i32; 4112], x: usize, shift: bool) -> i32
     requires { x < 4096 }
     ensures { result ≡ row_number halves.now shift x }
@@ -79,6 +80,7 @@ fn row_number(halves: &[i32; 4112], x: usize, shift: bool) -> i32
 }
 
 // The number halved, a half rounded up, or as it is.
+#[tactic(auto, using(crate::proofs::BuffersLaws::half_up), unfolding(crate::specs::Buffers::shifted))]
 fn halved(v: i32, shift: bool) -> i32
     ensures { result ≡ shifted shift v }
 {
