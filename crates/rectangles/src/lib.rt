@@ -10,7 +10,7 @@ ghost use Rattle.rectangles.specs.Layouts.{Covers};
 ghost use Rattle.rectangles.specs.Portions.{ReadsOn};
 
 use coefficients::quantiser::Quantiser;
-use coefficients::reading::{Cursor, Portion, Progress, Rectangle};
+use coefficients::reading::{Cursor, Portion, Rectangle};
 use coefficients::values::{Layout, read_run};
 
 // Reads the values of a rectangle from one on: of data of a stated length all, or up to one that is refused; of other data until bits are
@@ -35,18 +35,17 @@ pub fn read_values(
         let layout = layout_of(area, i);
         let part = read_run(plane, layout, i, bytes, next, q, table, small);
         i += part.count;
-        let progress = part.progress;
-        let Progress::At { bit } = progress else {
+        let Ok(bit) = part.progress else {
             return Portion {
                 count: i,
-                progress,
+                progress: part.progress,
                 short: false,
             };
         };
         if part.short {
             return Portion {
                 count: i,
-                progress,
+                progress: part.progress,
                 short: true,
             };
         }
@@ -54,7 +53,7 @@ pub fn read_values(
     }
     Portion {
         count: i,
-        progress: Progress::At { bit: next.bit },
+        progress: Ok(next.bit),
         short: false,
     }
 }

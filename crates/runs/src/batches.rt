@@ -53,8 +53,7 @@ fn read_lookups(
     let mut w = window;
     let mut i = from;
     let mut bits = 0;
-    let mut k: usize = 0;
-    while k < 7 {
+    for _ in 0..7u32 {
         let lookup = lookup_at(table, w);
         let to = i + lookup.zeros;
         if n <= to {
@@ -74,7 +73,6 @@ fn read_lookups(
         w = w << lookup.bits;
         i += lookup.count;
         bits += lookup.bits;
-        k += 1;
     }
     Batch {
         count: i - from,

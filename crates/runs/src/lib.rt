@@ -2,7 +2,7 @@
 // many at once up to the last of them.
 #![tactic(auto)]
 
-ghost use Rattle.std.specs.Prelude.{◌≡◌, true, false, ◌+◌, ◌*◌, ◌≤◌, ◌<◌, min, length};
+ghost use Rattle.std.specs.Prelude.{◌≡◌, true, false, ◌+◌, ◌≤◌, ◌<◌, min, length};
 ghost use Rattle.coefficients.specs.Reading.{goes_on};
 ghost use Rattle.coefficients.specs.Scaling.{scale_of, Bounded, small_fit};
 ghost use Rattle.coefficients.specs.Values.{after, index_of, entries, Ready, Decoding};
@@ -12,9 +12,10 @@ ghost use Rattle.runs.specs.Runs.{side_by_side, Fresh, SoundSpan, Inside, Before
 mod batches;
 mod padded;
 
+use base::status::Fault;
 use batches::read_batch;
 use coefficients::quantiser::{Quantiser, small_fit};
-use coefficients::reading::{Cursor, Portion, Progress};
+use coefficients::reading::{Cursor, Portion};
 use coefficients::values::{not_read, store_value};
 use exp_golomb::codes::{Number, read_signed};
 use padded::padded_window;
@@ -28,7 +29,7 @@ pub struct Span {
     pub origin: usize,
 }
 
-// Reads n values, dequantised, into the first n entries of a run, which hold zeros: all, or up to one that is refused.
+// Reads n values, dequantised, into the first n entries of a run, which hold zeros: all, or up to one that is refused. Answers the bit after them.
 pub fn read_run(
     run: &mut [i32],
     n: usize,
@@ -37,19 +38,20 @@ pub fn read_run(
     q: Quantiser,
     table: &[u16; 256],
     small: &[i32; 32],
-) -> Progress
+) -> Result<usize, Fault>
     requires { Fresh n run.old × SoundSpan span × Decoding q table.now small.now }
     ensures read { after result run.new
         ≡ entries bytes.now span.end span.origin (scale_of q) (λ k. k) 0 n (goes_on span.bit run.old) }
     ensures inside { BeforeEnd span.end result }
 {
-    let end = data_end(bytes, span.end);
+    // The bit at which the data end: the span's, or where the bytes do.
+    let end = span.end.min(bytes.len().saturating_mul(8));
     let mut bit = span.bit;
     let mut i: usize = 0;
     while i < n {
         // The values that are left are zeros.
         if end <= bit {
-            return Progress::At { bit };
+            return Ok(bit);
         }
         let cursor = Cursor {
             bit,
@@ -59,23 +61,9 @@ pub fn read_run(
         };
         let part = read_some(run, n, i, bytes, cursor, q, table, small);
         i += part.count;
-        let progress = part.progress;
-        let Progress::At { bit: next } = progress else {
-            return progress;
-        };
-        bit = next;
+        bit = part.progress?;
     }
-    Progress::At { bit }
-}
-
-// The bit at which data end: at bit `end`, or where the bytes do.
-fn data_end(bytes: &[u8], end: usize) -> usize
-    ensures { result ≡ min end (8 * length bytes.now) }
-{
-    if bytes.len() <= end / 8 {
-        return 8 * bytes.len();
-    }
-    end
+    Ok(bit)
 }
 
 // Reads a value or more: many at once where small values fit.
@@ -122,9 +110,7 @@ fn read_window(
     }
     Portion {
         count: batch.count,
-        progress: Progress::At {
-            bit: lesser(cursor.bit + batch.bits, cursor.end),
-        },
+        progress: Ok(cursor.end.min(cursor.bit + batch.bits)),
         short: false,
     }
 }
@@ -145,14 +131,4 @@ fn read_value(run: &mut [i32], i: usize, bytes: &[u8], cursor: Cursor, q: Quanti
         progress,
         short: false,
     }
-}
-
-// The lesser of two numbers.
-fn lesser(a: usize, b: usize) -> usize
-    ensures { result ≡ min a b }
-{
-    if a < b {
-        return a;
-    }
-    b
 }

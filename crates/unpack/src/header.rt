@@ -68,5 +68,5 @@ fn boundary(bit: usize) -> usize
     requires { bit < 2 ^ 63 }
     ensures { result ≡ boundary bit }
 {
-    (bit + 7) / 8 * 8
+    bit.next_multiple_of(8)
 }

@@ -51,7 +51,7 @@ pub shape_of-plane-in_default : goal.shape_of-plane-in_default
 shape_of-plane-in_default c = (step (goal.at.shape_of-plane-in_default c).After-struct_known-in-loop-i-1).same_length
 
 pub returns-in_default : goal.returns-in_default
-returns-in_default c = reads_over _ _ _ _ _ _ _ _ _ (step (goal.at.returns-in_default c).After-struct_known-in-loop-i-1) (λ next e. refused-never _ _ _ _ c.in_default.is e)
+returns-in_default c = reads_over _ _ _ _ _ _ _ _ _ (step (goal.at.returns-in_default c).After-struct_known-in-loop-i-1) (λ next e. refused-never _ _ _ c.in_default.is e)
 
 pub shape_of-plane-then-part : goal.shape_of-plane-then-part
 shape_of-plane-then-part c = (step (goal.at.shape_of-plane-then-part c).After-struct_known-in-loop-i-1).same_length
@@ -59,17 +59,17 @@ shape_of-plane-then-part c = (step (goal.at.shape_of-plane-then-part c).After-st
 pub returns-then-part : goal.returns-then-part
 returns-then-part c =
     let read = reads-run (goal.at.returns-then-part c).After-struct_known-in-loop-i-1 in
-    rw (← c.in-At.is) (reads_short _ _ _ _ _ _ _ _ _ (step (goal.at.returns-then-part c).After-struct_known-in-loop-i-1) (read.close_to_end c.if-part.true) (λ e. sym c.if-part.true ∙ read.full e))
+    reads_short _ _ _ _ _ _ _ _ _ (step (goal.at.returns-then-part c).After-struct_known-in-loop-i-1) (read.close_to_end c.if-part.true) (λ e. sym c.if-part.true ∙ read.full e)
 
 pub loop-i-smaller : goal.loop-i-smaller
 loop-i-smaller c =
     let covers = c.layout_of-layout.ensures in
-    omega (arith, c.read_run-part.ensures.some.1 _ c.in-At.is c.if-part.false, covers.some)
+    omega (arith, c.read_run-part.ensures.some.1 _ c.in-Ok.is c.if-part.false, covers.some)
 
 pub loop-i-preserved : goal.loop-i-preserved
 loop-i-preserved c =
-    let bit = c.in-At.bit in
-    (ap (λ (n : Cursor). moved n bit) c.loop-i.invariant.0, rw c.in-At.is at (step (goal.at.loop-i-preserved c).After-struct_known-in-loop-i-1))
+    let bit = c.in-Ok.bit in
+    (ap (λ (n : Cursor). moved n bit) c.loop-i.invariant.0, rw c.in-Ok.is at (step (goal.at.loop-i-preserved c).After-struct_known-in-loop-i-1))
 
 pub shape_of-plane : goal.shape_of-plane
 shape_of-plane c = c.loop-i.invariant.1.same_length

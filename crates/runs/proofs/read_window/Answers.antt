@@ -28,6 +28,6 @@ pub returns : goal.returns
 returns c =
     record {
       read = portion-padded _ c.args.cursor _ (index_of (side_by_side c.args.n)) _ _ _ _ c.read_batch-batch.result _ (c.requires.ready.3.small_values c.requires.fit) c.requires.ready.2
-          c.padded_window-w.ensures c.read_batch-batch.ensures.1 _ c.lesser.ensures;
+          c.padded_window-w.ensures c.read_batch-batch.ensures.1 _ (omega arith);
       some = (omega (arith, c.if-batch-eq0.false), c.read_batch-batch.ensures.0);
     }

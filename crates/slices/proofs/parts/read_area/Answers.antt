@@ -67,12 +67,6 @@ returns-in_default c =
     rw (← area-rows (data_of c.args.bytes.now c.args.piece.span) (scale_of c.args.piece.q) c.args.piece.holder c.args.piece.area _)
     (walked_stop _ (λ k. area-stays _ _ _ _) _ _ c.loop-y.y _ _ _ _ _ c.read_rows-progress.result _ _ c.loop-y-test.true c.loop-y.invariant.9 c.in_default.is (row-left (goal.at.returns-in_default c).After-read_rows-progress))
 
-pub overflow_add-y : goal.overflow_add-y
-overflow_add-y c = omega (arith, c.loop-y-test.true, c.requires.0.tall)
-
-pub loop-y-smaller : goal.loop-y-smaller
-loop-y-smaller c = omega (arith, c.loop-y-test.true)
-
 pub loop-y-preserved : goal.loop-y-preserved
 loop-y-preserved c =
     let inv = c.loop-y.invariant in

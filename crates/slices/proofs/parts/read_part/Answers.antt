@@ -16,8 +16,8 @@ use Rattle.slices.proofs.parts.read_part.Goals.{After-area_at, After-read_area-p
 pub grid_for-requires : goal.grid_for-requires
 grid_for-requires c = c.requires.sound.0
 
-pub slice_of-slice-requires : goal.slice_of-slice-requires
-slice_of-slice-requires c = (c.grid_for.ensures.1, rw c.grid_for.ensures.0 (grid-counted c.args.part.picture c.args.part.holder _ c.requires.sound.1))
+pub new-slice-requires : goal.new-slice-requires
+new-slice-requires c = (c.grid_for.ensures.1, rw c.grid_for.ensures.0 (grid-counted c.args.part.picture c.args.part.holder _ c.requires.sound.1))
 
 pub subband_count-count-requires : goal.subband_count-count-requires
 subband_count-count-requires c = c.requires.sound.0.shallow
@@ -35,7 +35,7 @@ subband_index-index-requires c = omega (arith, in-turn (goal.at.subband_index-in
 
 pub area_at-requires : goal.area_at-requires
 area_at-requires c =
-    let slice = c.slice_of-slice.ensures in
+    let slice = c.new-slice.ensures in
     let grid = c.grid_for.ensures in
     (rw slice.0 grid.1, slice.2, rw (slice.0, grid.0) (grid-depth c.args.part.picture c.args.part.holder _ (in-turn (goal.at.area_at-requires c).In-loop-k)))
 
@@ -46,7 +46,7 @@ index-most c = rw c.subband_index-index.ensures (c.requires.sound.2.each _ (omeg
 -- its rectangle is the slice's
 area-is : (c : After-area_at) → c.area_at.result ≡ slice_area (grid_for c.args.part.picture c.args.part.holder) c.args.part.slice c.loop-k.k
 area-is c =
-    let slice = c.slice_of-slice.ensures in
+    let slice = c.new-slice.ensures in
     rw (slice.0, slice.1, c.grid_for.ensures.0) at c.area_at.ensures
 
 pub quantiser_by-requires : goal.quantiser_by-requires
@@ -79,7 +79,7 @@ band-left : (c : After-read_area-progress) →
     (goes_on c.loop-k.span.bit (planes_of c.loop-k.luma c.loop-k.first c.loop-k.second)))
 band-left c =
     let inv = c.loop-k.invariant in
-    let slice = c.slice_of-slice.ensures in
+    let slice = c.new-slice.ensures in
     let area = rw (slice.0, slice.1, c.grid_for.ensures.0) at c.area_at.ensures in
     left-again _ _ _ inv.6 inv.7 _ _ _ _ _ _ _ (rw (area, c.quantiser_by.ensures.0, c.subband_index-index.ensures) at c.read_area-progress.ensures)
 
@@ -99,12 +99,6 @@ pub returns-in_default : goal.returns-in_default
 unfolding part_values
 returns-in_default c =
     walked_stop _ (λ k. area-stays _ _ _ _) _ _ c.loop-k.k _ _ _ _ _ c.read_area-progress.result _ _ (in-turn (goal.at.returns-in_default c).In-loop-k) c.loop-k.invariant.9 c.in_default.is (band-left (goal.at.returns-in_default c).After-read_area-progress)
-
-pub overflow_add-k : goal.overflow_add-k
-overflow_add-k c = omega (arith, c.loop-k-test)
-
-pub loop-k-smaller : goal.loop-k-smaller
-loop-k-smaller c = omega (arith, c.loop-k-test)
 
 pub loop-k-preserved : goal.loop-k-preserved
 loop-k-preserved c =

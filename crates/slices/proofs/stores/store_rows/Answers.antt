@@ -35,12 +35,6 @@ store_row-requires c =
     rw c.values_of-values.ensures
     (room-same _ _ _ _ _ _ inv.1 inv.2 inv.3 _ _ _ _ _ (row_room c.args.holder c.args.area _ _ _ _ c.requires c.loop-y.y (in-turn (goal.at.store_row-requires c).In-loop-y)))
 
-pub overflow_add-y : goal.overflow_add-y
-overflow_add-y c = omega (arith, in-turn (goal.at.overflow_add-y c).In-loop-y, c.requires.fits.tall)
-
-pub loop-y-smaller : goal.loop-y-smaller
-loop-y-smaller c = omega (arith, in-turn (goal.at.loop-y-smaller c).In-loop-y)
-
 pub loop-y-preserved : goal.loop-y-preserved
 loop-y-preserved c =
     let inv = c.loop-y.invariant in (

@@ -36,20 +36,20 @@ counts c =
     let is : c.subband_at-subband.result.level ≡ (c.args.k + 2) / 3 = ap (λ (s : Subband). s.level) c.subband_at-subband.ensures in
     counts-at c.args.p c.requires.0.codeblocks c.subband_at-subband.result.level (omega (arith, is, c.requires.1))
 
-pub offset_bounds-across-level : goal.offset_bounds-across-level
-offset_bounds-across-level c = omega (arith, level-small (goal.at.offset_bounds-across-level c).After-subband_at-subband)
+pub offset_bounds-p-level : goal.offset_bounds-p-level
+offset_bounds-p-level c = omega (arith, level-small (goal.at.offset_bounds-p-level c).After-subband_at-subband)
 
-pub bounds-across-level : goal.bounds-across-level
-bounds-across-level c = level-small (goal.at.bounds-across-level c).After-subband_at-subband
+pub bounds-p-level : goal.bounds-p-level
+bounds-p-level c = level-small (goal.at.bounds-p-level c).After-subband_at-subband
 
 pub overflow_cast-result : goal.overflow_cast-result
 overflow_cast-result c = omega (arith, (counts (goal.at.overflow_cast-result c).After-subband_at-subband).across_most)
 
-pub offset_bounds-down-level : goal.offset_bounds-down-level
-offset_bounds-down-level c = omega (arith, level-small (goal.at.offset_bounds-down-level c).After-subband_at-subband)
+pub offset_bounds-p-level-2 : goal.offset_bounds-p-level-2
+offset_bounds-p-level-2 c = omega (arith, level-small (goal.at.offset_bounds-p-level-2 c).After-subband_at-subband)
 
-pub bounds-down-level : goal.bounds-down-level
-bounds-down-level c = level-small (goal.at.bounds-down-level c).After-subband_at-subband
+pub bounds-p-level-2 : goal.bounds-p-level-2
+bounds-p-level-2 c = level-small (goal.at.bounds-p-level-2 c).After-subband_at-subband
 
 pub overflow_cast-result-2 : goal.overflow_cast-result-2
 overflow_cast-result-2 c = omega (arith, (counts (goal.at.overflow_cast-result-2 c).After-subband_at-subband).down_most)
