@@ -109,7 +109,8 @@ fn with_product(sum: i32, tap: i32, v: i32, narrow: bool) -> i32
     sum + tap * v
 }
 
-// A number with a sum, divided by 2^scale, added or subtracted.
+// A number with a sum, divided by 2^scale, added or subtracted. Unlike the function of 64 bits in `lines::sums` it asks that the new number fits, so one
+// for both would be longer than the two.
 #[tactic(auto, unfolding(lines::specs::Sums::changed, base::specs::Range::fits32))]
 fn lifted(v: i32, sum: i32, scale: u32, adds: bool) -> i32
     requires { (scale < 32) × (fits32 (changed adds scale v sum) ≡ true) }

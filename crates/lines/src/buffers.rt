@@ -1,11 +1,15 @@
-// The line buffer that holds the two halves of a row: the low one from entry 4 on, the high one from entry 2060 on.
+// The line buffer that holds the two halves of a row.
 ghost use Rattle.std.specs.Prelude.{◌≡◌, ◌+◌, ◌*◌, ◌≤◌, ◌<◌, length};
 ghost use Rattle.lines.specs.Buffers.{EndsRepeated, KeptOutside, shifted, row_number, with_row, with_row_part};
 
 use base::plane::copy;
 
+// The low half stands from entry 4 on, the high one from entry 2060 on, each with room for four entries on either side. An array and no struct:
+// how many numbers a half has changes from level to level and how large they are from step to step, so that each function says it.
+pub type LineBuffer = [i32; 4112];
+
 // Repeats the first and the last entry of the half that stands behind a base four times on either side of it. The rest stays.
-pub fn extend(halves: &mut [i32; 4112], base: usize, half: usize)
+pub fn extend(halves: &mut LineBuffer, base: usize, half: usize)
     requires { (base ≤ 2056) × (1 ≤ half) × (half ≤ 2048) }
     ensures repeated { EndsRepeated base half halves.old halves.new }
     ensures kept { KeptOutside base half halves.old halves.new }
@@ -21,7 +25,7 @@ pub fn extend(halves: &mut [i32; 4112], base: usize, half: usize)
 }
 
 // Interleaves the two halves of a row: stores its first `count` numbers in a plane from an index on, shifted if asked for.
-pub fn interleave(plane: &mut [i32], start: usize, halves: &[i32; 4112], count: usize, shift: bool)
+pub fn interleave(plane: &mut [i32], start: usize, halves: &LineBuffer, count: usize, shift: bool)
     requires { (count ≤ 4096) × (start + count ≤ length plane.old) }
     ensures { plane.new ≡ with_row plane.old start count halves.now shift }
 {
@@ -35,7 +39,7 @@ pub fn interleave(plane: &mut [i32], start: usize, halves: &[i32; 4112], count: 
 fn interleave_eights(
     plane: &mut [i32],
     start: usize,
-    halves: &[i32; 4112],
+    halves: &LineBuffer,
     eights: usize,
     shift: bool,
 )
@@ -53,7 +57,7 @@ fn interleave_eights(
 fn interleave_part(
     plane: &mut [i32],
     start: usize,
-    halves: &[i32; 4112],
+    halves: &LineBuffer,
     from: usize,
     count: usize,
     shift: bool,
@@ -67,7 +71,8 @@ fn interleave_part(
 }
 
 // Number x of the row, shifted if asked for.
-fn row_number(halves: &[i32; 4112], x: usize, shift: bool) -> i32
+#[tactic(auto, unfolding(crate::specs::Buffers::interleaved))]
+fn row_number(halves: &LineBuffer, x: usize, shift: bool) -> i32
     requires { x < 4096 }
     ensures { result ≡ row_number halves.now shift x }
 {
@@ -79,6 +84,7 @@ fn row_number(halves: &[i32; 4112], x: usize, shift: bool) -> i32
 }
 
 // The number halved, a half rounded up, or as it is.
+#[tactic(auto, using(crate::proofs::BuffersLaws::half_up), unfolding(crate::specs::Buffers::shifted))]
 fn halved(v: i32, shift: bool) -> i32
     ensures { result ≡ shifted shift v }
 {

@@ -32,6 +32,7 @@ pub fn copy_measured(plane: &mut [i32], start: usize, source: &[i32], from: usiz
 }
 
 // A number that is at least as large as either.
+#[tactic(auto, using(std::proofs::lemmas::Nat::le_or_l, std::proofs::lemmas::Nat::le_or_r))]
 pub fn join(a: u32, b: u32) -> u32
     ensures { (a ≤ result) × (b ≤ result) }
 {
