@@ -8,7 +8,7 @@ use native.Mathlib.Numerals.{add-one}
 use native.Mathlib.Decide.{dec_lt}
 use native.Mathlib.Omega.{arith}
 use lib.Dec.{leb, eqb}
-use lib.ListN.{length, take, drop, get_or, get_or-eq_default}
+use lib.ListN.{length, take, drop, get_or}
 use borrow.Author.Tests.{leb-true, eqb-true, le-leb, lt-leb, eq-eqb, ne_eqb}
 use Rattle.base.specs.Every.{all_below}
 use Rattle.base.proofs.EveryLaws.{all-at}
@@ -30,10 +30,6 @@ own-count zero other = absurd (other refl)
 own-count (suc n) other = refl
 
 module _ (file : List ℕ) where
-  -- a file without bytes states no entry
-  pub stated-none : length file ≡ 0 → stated_count file ≡ 0
-  stated-none e = get_or-eq_default file 0 (omega arith)
-
   -- a body starts where the one before it ends
   pub first_body : body_start file 0 ≡ entry_offset (stated_count file)
   unfolding body_start

@@ -1,6 +1,7 @@
 // Document 01, "A recording": the contents, and the checks behind refusal 11.
 ghost use Rattle.std.specs.Prelude.{◌≡◌, ◌&&◌, ◌+◌, ◌≤◌, ◌<◌, eqb, length};
 ghost use Rattle.base.specs.Every.{all_below};
+ghost use Rattle.contents.specs.Counts.{nonzero};
 ghost use Rattle.contents.specs.Table.{stated_count, entry_offset, codeblock_count, codeblock_counts, parameters_at, body_start, entry_is_right, table_is_right, entry_count, entry_at};
 
 use crate::bytes::{byte_at, four_bytes_at, two_bytes_at};
@@ -23,14 +24,14 @@ pub struct Entry {
     pub size: usize,
 }
 
-// How many entries a recording has: 0 where its table is wrong.
-pub fn entry_count(file: &[u8]) -> usize
-    ensures { result ≡ entry_count file.now }
+// How many entries a recording has, where its table is right.
+pub fn entry_count(file: &[u8]) -> Option<usize>
+    ensures { result ≡ nonzero (entry_count file.now) }
 {
     if table_is_right(file) {
-        stated_count(file)
+        Some(stated_count(file))
     } else {
-        0
+        None
     }
 }
 
@@ -90,13 +91,11 @@ fn bodies_are_right(file: &[u8], count: usize) -> bool
     ensures { result ≡ all_below count (entry_is_right file.now) && eqb (body_start file.now count) (length file.now) }
 {
     let mut end = entry_offset(count);
-    let mut k = 0;
-    while k < count {
+    for k in 0..count {
         if !entry_is_right(file, k, end) {
             return false;
         }
         end += four_bytes_at(file, entry_offset(k) + 22);
-        k += 1;
     }
     end == file.len()
 }
@@ -107,23 +106,19 @@ fn entry_is_right(file: &[u8], k: usize, start: usize) -> bool
     ensures { result ≡ entry_is_right file.now k }
 {
     let offset = entry_offset(k);
-    if 1 < byte_at(file, offset + 6) {
-        return false;
-    }
-    if byte_at(file, offset + 7) != 0 {
-        return false;
-    }
-    four_bytes_at(file, offset + 18) == start
+    byte_at(file, offset + 6) <= 1
+        && byte_at(file, offset + 7) == 0
+        && four_bytes_at(file, offset + 18) == start
 }
 
 // The number of entries that the first byte states, 0 where there is none.
 fn stated_count(file: &[u8]) -> usize
     ensures { result ≡ stated_count file.now }
 {
-    if file.len() == 0 {
-        return 0;
+    match file.first() {
+        Some(count) => usize::from(*count),
+        None => 0,
     }
-    byte_at(file, 0) as usize
 }
 
 // Where entry k starts; after the last, where the table ends.
@@ -148,7 +143,7 @@ fn codeblock_counts(file: &[u8], at: usize) -> [u32; 5]
     ]
 }
 
-// A codeblock count as a byte states it, 0 for the default.
+// A codeblock count as a byte states it, 0 for the default. The maximum of the byte and 1 is the same, but does not say so.
 fn codeblock_count(byte: u32) -> u32
     ensures { result ≡ codeblock_count byte }
 {

@@ -16,6 +16,11 @@ use Rattle.base.proofs.Integers.{size-mag}
 use Rattle.io.specs.Digits.{last_digits, hex_digit_ascii, IsDigitCount}
 use Rattle.text.specs.Text.{ascii, digits_within, decimal, signed_text, spaced, row_text, rows_text}
 
+-- a text that goes on by a piece, and then by another
+pub put_both : (t₀ p t₁ q t₂ whole : List ℕ) → p ++ q ≡ whole → t₁ ≡ t₀ ++ p → t₂ ≡ t₁ ++ q → t₂ ≡ t₀ ++ whole
+put_both t₀ p t₁ q t₂ whole same first second =
+    second ∙ ap (λ (l : List ℕ). l ++ q) first ∙ append_assoc t₀ p q ∙ ap (λ (l : List ℕ). t₀ ++ l) same
+
 -- a number below 10 has one digit
 pub fewest-small : (n r : ℕ) → IsDigitCount 10 1 n r → n < 10 → 1 ≡ r
 fewest-small n zero f h = absurd (omega arith)

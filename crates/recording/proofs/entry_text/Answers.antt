@@ -1,9 +1,10 @@
 -- `recording::entry_text` meets its contract: the entry's body is a part of the file, and its planes are parts of the program's.
-use mathlib.Core.Path.{sym, ◌∙◌}
+use mathlib.Core.Path.{sym, ap, ◌∙◌}
+use mathlib.Core.List.{List, ◌++◌}
+use Prim.Native.Nat.{ℕ}
 use native.Mathlib.Omega.{arith}
 use lib.Seq.{length-take-le}
 use Rattle.contents.proofs.TableLaws.{part-inside, part-is-body}
-use Rattle.text.proofs.PutLaws.{put_same}
 use Rattle.recording.proofs.OutputLaws.{plane-most, sample-most}
 use Rattle.recording.proofs.OutputLaws.{text_of}
 use borrow.Author.Rules.{rules}
@@ -47,12 +48,12 @@ decoded_text-requires c =
         length-take-le _ _ (omega (arith, area, plane-most p, lengths.1)) ∙ area,
         length-take-le _ _ (omega (arith, count, sample-most p, lengths.2)) ∙ count,
       );
-      text_len = lengths.3;
+      no_text = c.requires.no_text;
     }
 
 pub returns : goal.returns
 returns c =
     let file = c.args.file.now in
-    let put = c.decoded_text.ensures in
     let bytes = part-is-body file c.args.k c.requires.k_bound c.entry_at-entry.result c.entry_at-entry.ensures in
-    record { put = put_same _ c.args.text.now _ _ _ _ (text_of file c.args.k c.entry_at-entry.result c.entry_at-entry.ensures _ bytes) put.put; upper_bound = put.upper_bound }
+    c.decoded_text.ensures
+    ∙ ap (λ (l : List ℕ). c.args.text.now ++ l) (text_of file c.args.k c.entry_at-entry.result c.entry_at-entry.ensures _ bytes)

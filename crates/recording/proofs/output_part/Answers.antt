@@ -1,28 +1,27 @@
 -- `recording::output_part` meets its contract: each way it ends is a case of the part's definition.
-use mathlib.Core.Path.{sym, ◌∙◌}
-use Prim.Native.Nat.{◌≤◌}
-use native.Mathlib.Omega.{arith}
-use lib.ListN.{length}
-use lib.Seq.{length-take-le}
+use mathlib.Core.Path.{sym, ap, ◌∙◌}
+use mathlib.Core.List.{List, ◌++◌}
+use Prim.Native.Nat.{ℕ}
+use Rattle.contents.specs.Table.{entry_count}
 use Rattle.text.specs.Text.{ascii}
-use Rattle.recording.proofs.PartsLaws.{entry-parts, part-wrong, part-entry}
-use borrow.Author.Rules.{rules}
+use Rattle.recording.specs.Output.{entry_text}
+use Rattle.recording.proofs.PartsLaws.{entries-none, entries-some, entry-parts, part-wrong, part-entry}
 use Rattle.recording.proofs.output_part.Goals as goal
 
-pub returns-then-entries-eq0 : goal.returns-then-entries-eq0
+pub entry_text-requires-clause-k_bound : goal.entry_text-requires-clause-k_bound
+entry_text-requires-clause-k_bound c =
+    let some = entries-some (entry_count c.args.file.now) c.in-Some.field-0 (sym c.in-Some.is ∙ c.requires.0) in
+    rw (← entry-parts (entry_count c.args.file.now) some) at c.requires.1
+
+pub returns-in-Some : goal.returns-in-Some
+returns-in-Some c =
+    let some = entries-some (entry_count c.args.file.now) c.in-Some.field-0 (sym c.in-Some.is ∙ c.requires.0) in
+    c.entry_text.ensures
+    ∙ ap (λ (l : List ℕ). l ++ entry_text c.args.file.now c.args.k) c.clear.ensures
+    ∙ part-entry c.args.file.now c.args.k some
+
+pub returns-in-None : goal.returns-in-None
 unfolding ascii
-returns-then-entries-eq0 c =
-    let put = c.put_word.ensures in
-    let room : c.put_word.result ≤ length c.put_word.new.text = omega (arith, put.0, c.put_word.auto.text) in
-    record { text_after = put.1 ∙ part-wrong c.args.file.now c.args.k (sym c.requires.0 ∙ c.if-entries-eq0.true); prefix_len = (room, sym (length-take-le _ _ room)) }
-
-pub entry_text-requires : goal.entry_text-requires
-entry_text-requires c =
-    let below = rw (← entry-parts c.args.entries c.if-entries-eq0.false, c.requires.0) at c.requires.1 in
-    search rules
-
-pub returns : goal.returns
-returns c =
-    let put = c.entry_text.ensures in
-    let room : c.entry_text.result ≤ length c.entry_text.new.text = omega (arith, put.upper_bound, c.entry_text.auto.text) in
-    record { text_after = put.put.1 ∙ part-entry c.args.file.now c.args.k (λ none. c.if-entries-eq0.false (c.requires.0 ∙ none)); prefix_len = (room, sym (length-take-le _ _ room)) }
+returns-in-None c =
+    let none = entries-none (entry_count c.args.file.now) (sym c.in-None.is ∙ c.requires.0) in
+    c.put_word.ensures ∙ ap (λ (l : List ℕ). l ++ ascii "refused 11\n") c.clear.ensures ∙ part-wrong c.args.file.now c.args.k none

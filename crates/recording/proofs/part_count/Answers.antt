@@ -1,9 +1,7 @@
 -- `recording::part_count` meets its contract: a wrong table has one part.
-use Rattle.recording.proofs.PartsLaws.{one-part, entry-parts}
+use mathlib.Core.Path.{◌∙◌}
+use Rattle.recording.proofs.PartsLaws.{parts_of}
 use Rattle.recording.proofs.part_count.Goals as goal
 
-pub returns-then-entries-eq0 : goal.returns-then-entries-eq0
-returns-then-entries-eq0 c = one-part c.args.entries c.if-entries-eq0.true
-
-pub returns-else-entries-eq0 : goal.returns-else-entries-eq0
-returns-else-entries-eq0 c = entry-parts c.args.entries c.if-entries-eq0.false
+pub returns : goal.returns
+returns c n is = c.unwrap_or.ensures ∙ parts_of c.args.entries n is
