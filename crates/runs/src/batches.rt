@@ -6,7 +6,7 @@ ghost use Rattle.coefficients.specs.Batches.{ReadsWithin};
 ghost use Rattle.runs.specs.Runs.{side_by_side};
 
 use coefficients::values::{Batch, Decoder};
-use lookups::{lookup_at, starts_with_ones};
+use lookups::starts_with_ones;
 
 // Reads values by the bits of a window: all that are left, or 32, at once where they are zeros; others by lookups.
 pub fn read_batch(run: &mut [i32], n: usize, from: usize, window: u64, decoder: Decoder) -> Batch
@@ -39,7 +39,7 @@ fn read_lookups(run: &mut [i32], n: usize, from: usize, window: u64, decoder: De
     let mut i = from;
     let mut bits = 0;
     for _ in 0..7usize {
-        let lookup = lookup_at(decoder.table, w);
+        let lookup = decoder.table.look_up(w);
         let to = i + lookup.zeros;
         if n <= to {
             return Batch {

@@ -26,7 +26,7 @@ overflow_add-result c = omega arith
 pub returns-then-n-to : goal.returns-then-n-to
 returns-then-n-to c = (
   omega (arith, c.requires.counted),
-  taken-zeros _ _ _ _ _ c.requires _ _ _ _ c.lookup_at-lookup.result (omega arith) c.loop.invariant.2 c.lookup_at-lookup.ensures
+  taken-zeros _ _ _ _ _ c.requires _ _ _ _ c.look_up-lookup.result (omega arith) c.loop.invariant.2 c.look_up-lookup.ensures
       (c.args.n - c.loop.i) _ (omega arith) (omega arith) (omega arith),
 )
 
@@ -50,11 +50,11 @@ overflow_add-bits c = omega arith
 
 pub loop-preserved : goal.loop-preserved
 loop-preserved c =
-    let fits : c.loop.i + c.lookup_at-lookup.result.zeros < c.args.n = omega arith in (
+    let fits : c.loop.i + c.look_up-lookup.result.zeros < c.args.n = omega arith in (
       omega arith,
-      omega (arith, lookup-count _ _ c.lookup_at-lookup.ensures),
-      rw (back w32 (get_or c.args.decoder.small.now c.lookup_at-lookup.result.value (pos 0)) c.run-1.given)
-          (rw (side-index c.args.n) at (taken-lookup _ _ (side_by_side c.args.n) _ _ c.requires _ _ _ _ _ (omega arith) c.loop.invariant.2 c.lookup_at-lookup.ensures fits)),
+      omega (arith, lookup-count _ _ c.look_up-lookup.ensures),
+      rw (back w32 (get_or c.args.decoder.small.now c.look_up-lookup.result.value (pos 0)) c.run-1.given)
+          (rw (side-index c.args.n) at (taken-lookup _ _ (side_by_side c.args.n) _ _ c.requires _ _ _ _ _ (omega arith) c.loop.invariant.2 c.look_up-lookup.ensures fits)),
     )
 
 pub overflow_sub-result-2 : goal.overflow_sub-result-2
