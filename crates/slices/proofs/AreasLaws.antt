@@ -1,13 +1,20 @@
 -- Laws of the rectangles of slices: a component of padded sizes, a slice's rectangle between its edges, and that it lies in the plane.
 -- Assumes nothing.
 use mathlib.Core.Path.{◌≡◌, refl}
+use mathlib.Core.Bool.{Bool, true}
 use mathlib.Core.List.{List}
 use Prim.Native.Nat.{ℕ, ◌+◌, ◌-◌, ◌*◌, ◌/◌, ◌%◌, ◌≤◌, ◌<◌}
 use native.Mathlib.Nat.{mul-le-mul_right, mul_comm, mod-lt, div-lt_iff_lt-mul}
 use native.Mathlib.Numerals.{add-one}
 use native.Mathlib.Omega.{arith}
+use borrow.Author.Tests.{leb-true, le-leb}
+use lib.Dec.{leb}
 use lib.IntN.{ℤ}
 use lib.ListN.{length}
+use Rattle.std.specs.Prelude.{◌↔◌}
+use Rattle.base.specs.Every.{all_below}
+use Rattle.base.proofs.Booleans.{same_test}
+use Rattle.base.proofs.EveryLaws.{all_from, all-at}
 use Rattle.component.specs.Partition.{part_start}
 use Rattle.component.specs.Reciprocal.{reciprocal_of}
 use Rattle.component.specs.Sizes.{padded_size}
@@ -132,3 +139,10 @@ module _ (t : Slice) (whole : Whole t.grid) (standing : Standing t) (k : ℕ) (b
     area-is =
         rw (is, across-edge t.x left_by, across-edge (t.x + 1) right_by, down-edge t.y top-by, down-edge (t.y + 1) bottom-by, standing.column, standing.row, add-one (t.number % t.grid.across), add-one (t.number / t.grid.across))
         refl
+
+-- a test of whether the first numbers are at most a bound
+pub all-most : (f : ℕ → ℕ) (n most : ℕ) (b : Bool) → (b ≡ true ↔ ((k : ℕ) → k < n → f k ≤ most)) → b ≡ all_below n (λ k. leb (f k) most)
+all-most f n most b each =
+    same_test _ _
+    (λ yes. all_from (λ k. leb (f k) most) n (λ k h. le-leb _ _ (each.0 yes k h)))
+    (λ all. each.1 (λ k h. leb-true _ _ (all-at (λ k. leb (f k) most) n k all h)))

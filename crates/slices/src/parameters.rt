@@ -1,4 +1,6 @@
 // Document 02, request Four: the parameters of a picture in slices.
+ghost use Rattle.std.specs.Prelude.{◌≡◌, ◌*◌, ◌≤◌};
+ghost use Rattle.slices.specs.Stores.{turns};
 
 // What every kind of slices takes. Any value can be passed; a job refuses what is out of range.
 #[derive(Clone, Copy)]
@@ -30,4 +32,17 @@ pub struct Grid {
 pub enum Holder {
     Luma,
     Both,
+}
+
+impl Holder {
+    // How many values a part has for so many entries.
+    pub fn values_of(self, entries: usize) -> usize
+        requires { entries ≤ 16777216 }
+        ensures { result ≡ entries * turns self }
+    {
+        match self {
+            Holder::Luma => entries,
+            Holder::Both => 2 * entries,
+        }
+    }
 }

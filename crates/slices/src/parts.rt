@@ -13,9 +13,9 @@ ghost use Rattle.slices.specs.Bounds.{Checked, Lengths, Indexed, Whole, KnowsSma
 ghost use Rattle.slices.specs.Stores.{turns, Fits};
 ghost use Rattle.slices.specs.Reads.{Blank, data_of, row_of, Left};
 
-use crate::areas::{area_at, grid_of, slice_of, subband_index};
+use crate::areas::{Slice, grid_of, subband_index};
 use crate::parameters::{Grid, Holder, Picture};
-use crate::stores::{store_rows, values_of};
+use crate::stores::store_rows;
 use base::plane::zero_part;
 use coefficients::quantiser::{Quantiser, quantiser_by};
 use coefficients::reading::{Progress, Rectangle};
@@ -66,15 +66,14 @@ pub fn read_part(
 {
     let p = part.picture;
     let holder = part.holder;
-    let slice = slice_of(grid_for(p, holder), part.slice);
+    let slice = Slice::new(grid_for(p, holder), part.slice);
     let count = subband_count(p.depth as usize);
     let mut span = part.span;
-    let mut k = 0;
-    while k < count {
+    for k in 0..count {
         let index = subband_index(p, part.index, k);
         let piece = Piece {
             holder,
-            area: area_at(slice, k),
+            area: slice.area_at(k),
             span,
             q: quantiser_by(factors, p.intra, index),
         };
@@ -92,7 +91,6 @@ pub fn read_part(
             return progress;
         };
         span.bit = bit;
-        k += 1;
     }
     Progress::At { bit: span.bit }
 }
@@ -127,13 +125,12 @@ fn read_area(
 {
     let holder = piece.holder;
     let area = piece.area;
-    if values_of(holder, area.height * area.width) <= RUN {
+    if holder.values_of(area.height * area.width) <= RUN {
         return read_rows(luma, first, second, piece, bytes, run, table, small);
     }
     let q = piece.q;
     let mut span = piece.span;
-    let mut y = 0;
-    while y < area.height {
+    for y in 0..area.height {
         let row = Piece {
             holder,
             area: row_of(area, y),
@@ -145,7 +142,6 @@ fn read_area(
             return progress;
         };
         span.bit = bit;
-        y += 1;
     }
     Progress::At { bit: span.bit }
 }
@@ -183,7 +179,7 @@ fn read_rows(
 {
     let holder = piece.holder;
     let area = piece.area;
-    let n = values_of(holder, area.height * area.width);
+    let n = holder.values_of(area.height * area.width);
     let progress = read_run(run, n, bytes, piece.span, piece.q, table, small);
     let Progress::At { bit: _ } = progress else {
         return progress;

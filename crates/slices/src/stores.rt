@@ -2,7 +2,7 @@
 ghost use Rattle.std.specs.Prelude.{◌≡◌, ◌+◌, ◌*◌, ◌≤◌, pos, length, get_or};
 ghost use Rattle.base.specs.Fill.{fill};
 ghost use Rattle.slices.specs.Planes.{planes_of};
-ghost use Rattle.slices.specs.Stores.{turns, stored_row, stored_rows, Room, RoomOfRow};
+ghost use Rattle.slices.specs.Stores.{stored_row, stored_rows, Room, RoomOfRow};
 
 use crate::parameters::Holder;
 use base::plane::copy;
@@ -21,9 +21,8 @@ pub fn store_rows(
     ensures { planes_of luma.new first.new second.new
         ≡ stored_rows holder area run.now area.height (planes_of luma.old first.old second.old) }
 {
-    let values = values_of(holder, area.width);
-    let mut y = 0;
-    while y < area.height {
+    let values = holder.values_of(area.width);
+    for y in 0..area.height {
         let index = area.start + y * area.stride;
         store_row(
             luma,
@@ -35,18 +34,6 @@ pub fn store_rows(
             run,
             y * values,
         );
-        y += 1;
-    }
-}
-
-// How many values a part has for so many entries.
-pub fn values_of(holder: Holder, entries: usize) -> usize
-    requires { entries ≤ 16777216 }
-    ensures { result ≡ entries * turns holder }
-{
-    match holder {
-        Holder::Luma => entries,
-        Holder::Both => 2 * entries,
     }
 }
 
@@ -77,10 +64,8 @@ fn share(first: &mut [i32], second: &mut [i32], index: usize, source: &[i32], fr
     ensures first_after { first.new ≡ fill first.old index n (λ x. get_or source.now (from + 2 * x) (pos 0)) }
     ensures second_after { second.new ≡ fill second.old index n (λ x. get_or source.now (from + 2 * x + 1) (pos 0)) }
 {
-    let mut x = 0;
-    while x < n {
+    for x in 0..n {
         first[index + x] = source[from + 2 * x];
         second[index + x] = source[from + 2 * x + 1];
-        x += 1;
     }
 }

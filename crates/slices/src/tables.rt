@@ -10,10 +10,7 @@ pub fn fill_small_table(table: &mut [[i32; 32]; 116], intra: bool)
     requires { length table.old ≡ 116 }
     ensures { KnowsSmall intra 116 table.new }
 {
-    let mut index: usize = 0;
-    while index < 116 {
-        let q = quantiser_of(intra, index as u32);
-        table[index] = small_values(q);
-        index += 1;
+    for (index, small) in table.iter_mut().enumerate() {
+        *small = small_values(quantiser_of(intra, index as u32));
     }
 }

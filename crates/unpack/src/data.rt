@@ -115,12 +115,10 @@ pub(crate) fn codeblocks_of(p: Parameters, k: usize) -> CodeblockGrid
     let stride = padded_size(depth, p.width as usize);
     let subband = subband_at(depth, stride, padded_size(depth, p.height as usize), k);
     let level = subband.level;
-    let across = p.codeblocks_across;
-    let down = p.codeblocks_down;
     CodeblockGrid {
         stride,
         subband,
-        across: across[level] as usize,
-        down: down[level] as usize,
+        across: p.codeblocks_across[level] as usize,
+        down: p.codeblocks_down[level] as usize,
     }
 }

@@ -64,9 +64,10 @@ fn refused_at(number: Number) -> Header
 }
 
 // The first bit of a byte, at a bit or after it.
+#[tactic(auto, unfolding(crate::specs::Header::boundary))]
 fn boundary(bit: usize) -> usize
     requires { bit < 2 ^ 63 }
     ensures { result ≡ boundary bit }
 {
-    (bit + 7) / 8 * 8
+    bit.next_multiple_of(8)
 }

@@ -12,7 +12,7 @@ ghost use Rattle.coefficients.specs.Reading.{goes_on};
 ghost use Rattle.coefficients.specs.Values.{after};
 ghost use Rattle.unpack.specs.Subband.{codeblocks_of, subband};
 ghost use Rattle.unpack.specs.Job.{outcome, subbands_from, unpacked};
-ghost use Rattle.unpack.specs.Bounds.{Checked, ClearBand, ClearBandsFrom, progress_status};
+ghost use Rattle.unpack.specs.Bounds.{Checked, ClearBand, ClearBandsFrom};
 
 use crate::data::{codeblocks_of, predict_band, read_headed};
 use crate::header::read_header;
@@ -49,29 +49,25 @@ fn read_subbands(p: Parameters, bytes: &[u8], plane: &mut [i32]) -> Answer
 {
     let table = lookup_table();
     let count = subband_count(p.depth as usize);
-    let mut k = 0;
-    // Called in two places, `read_subband` is not inlined, which leaves its loops more registers.
-    let mut progress = read_subband(plane, p, 0, bytes, 0, &table);
-    loop {
-        let Progress::At { bit } = progress else {
-            zero(plane);
-            return Answer {
-                status: progress_status(progress),
-                place: k,
-            };
-        };
-        k += 1;
-        if k == count {
-            return Answer {
-                status: ACCEPTED,
-                place: bit / 8,
-            };
+    let mut at = 0;
+    for k in 0..count {
+        match read_subband(plane, p, k, bytes, at, &table) {
+            Progress::At { bit } => at = bit,
+            Progress::Refused { status, bit: _ } => {
+                zero(plane);
+                return Answer { status, place: k };
+            }
         }
-        progress = read_subband(plane, p, k, bytes, bit, &table);
+    }
+    Answer {
+        status: ACCEPTED,
+        place: at / 8,
     }
 }
 
 // Reads subband k from a bit on, into zeros: its header, its data, and its prediction where the rules say so. Goes on at the bit after it.
+// It is not inlined, which leaves its loops more registers.
+#[inline(never)]
 fn read_subband(
     plane: &mut [i32],
     p: Parameters,
@@ -97,14 +93,4 @@ fn read_subband(
         return progress;
     }
     predict_band(plane, blocks, bit)
-}
-
-// The number of a refusal, or 0.
-fn progress_status(progress: Progress) -> u32
-    ensures { result ≡ progress_status progress }
-{
-    match progress {
-        Progress::At { bit: _ } => ACCEPTED,
-        Progress::Refused { status, bit: _ } => status,
-    }
 }

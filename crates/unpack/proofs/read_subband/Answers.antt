@@ -45,9 +45,6 @@ predict_band-requires c =
     subst (λ (b : CodeblockGrid). Placed b c.read_headed-progress.new.plane) (sym c.codeblocks_of-blocks.ensures)
     (codeblocks-placed c.args.p c.requires.0 c.args.k c.requires.1 c.read_headed-progress.new.plane (c.read_headed-progress.auto.plane ∙ c.requires.2))
 
-pub shape_of-plane : goal.shape_of-plane
-shape_of-plane c = c.predict_band.auto.plane ∙ c.read_headed-progress.auto.plane
-
 pub returns : goal.returns
 returns c =
     c.predict_band.ensures

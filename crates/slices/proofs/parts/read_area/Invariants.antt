@@ -1,6 +1,6 @@
 -- `slices::parts::read_area` meets its contract: all rows at once; or row by row, where at the loop's head the rows before row y are read.
 use mathlib.Core.Path.{◌≡◌}
-use Prim.Native.Nat.{◌-◌, ◌≤◌}
+use Prim.Native.Nat.{◌≤◌}
 use lib.ListN.{length}
 use Rattle.base.specs.Walk.{walk}
 use Rattle.coefficients.specs.Reading.{goes_on}
@@ -16,6 +16,3 @@ invariant-loop-y l =
     × (l.span.end ≡ l.initial.span.end) × (l.span.origin ≡ l.initial.span.origin) × (l.span.bit ≤ l.initial.span.end)
     × (walk (λ j. area_values (data_of l.bytes l.initial.span) (scale_of l.q) l.holder (row_of l.area j)) 0 l.y (goes_on l.initial.span.bit (planes_of l.initial.luma l.initial.first l.initial.second))
     ≡ goes_on l.span.bit (planes_of l.luma l.first l.second))
-
-abbrev pub decreases-loop-y : goal.decreases-loop-y
-decreases-loop-y l = l.area.height - l.y

@@ -1,6 +1,6 @@
 -- `slices::parts::read_part` meets its contract: at the loop's head the values of the subbands before subband k are read.
 use mathlib.Core.Path.{◌≡◌}
-use Prim.Native.Nat.{◌-◌, ◌≤◌}
+use Prim.Native.Nat.{◌≤◌}
 use lib.ListN.{length}
 use Rattle.base.specs.Walk.{walk}
 use Rattle.coefficients.specs.Quantiser.{dequantise}
@@ -18,6 +18,3 @@ invariant-loop-k l =
     × (walk (λ j. area_values (data_of l.bytes l.initial.span) (dequantise l.part.picture.intra (subband_index l.part.picture l.part.index j)) l.part.holder (slice_area (grid_for l.part.picture l.part.holder) l.part.slice j)) 0 l.k
     (goes_on l.initial.span.bit (planes_of l.initial.luma l.initial.first l.initial.second))
     ≡ goes_on l.span.bit (planes_of l.luma l.first l.second))
-
-abbrev pub decreases-loop-k : goal.decreases-loop-k
-decreases-loop-k l = l.count - l.k

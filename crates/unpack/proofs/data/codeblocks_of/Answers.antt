@@ -2,10 +2,9 @@
 use mathlib.Core.Path.{◌≡◌, ap}
 use Prim.Native.Nat.{◌+◌, ◌/◌, ◌<◌}
 use native.Mathlib.Omega.{arith}
-use lib.ListN.{get_or}
 use Rattle.component.specs.Subbands.{subband_at, subband_level}
 use Rattle.component.specs.declared.subbands.Subband.{Subband}
-use Rattle.component.proofs.ChecksLaws.{Counts, counts-at, width_most, height_most, depth_most}
+use Rattle.component.proofs.ChecksLaws.{width_most, height_most, depth_most}
 use Rattle.unpack.specs.Subband.{codeblocks_of}
 use Rattle.unpack.proofs.data.codeblocks_of.Goals as goal
 use Rattle.unpack.proofs.data.codeblocks_of.Goals.{After-subband_at-subband}
@@ -29,30 +28,17 @@ level-small c =
     let is : c.subband_at-subband.result.level ≡ (c.args.k + 2) / 3 = ap (λ (s : Subband). s.level) c.subband_at-subband.ensures in
     omega (arith, is, c.requires.1, depth_most c.args.p c.requires.0.depth)
 
--- and its codeblock counts are small
-counts : (c : After-subband_at-subband) → Counts (get_or c.args.p.codeblocks_across c.subband_at-subband.result.level 0) (get_or c.args.p.codeblocks_down c.subband_at-subband.result.level 0)
-unfolding subband_at subband_level
-counts c =
-    let is : c.subband_at-subband.result.level ≡ (c.args.k + 2) / 3 = ap (λ (s : Subband). s.level) c.subband_at-subband.ensures in
-    counts-at c.args.p c.requires.0.codeblocks c.subband_at-subband.result.level (omega (arith, is, c.requires.1))
+pub offset_bounds-p-level : goal.offset_bounds-p-level
+offset_bounds-p-level c = omega (arith, level-small (goal.at.offset_bounds-p-level c).After-subband_at-subband)
 
-pub offset_bounds-across-level : goal.offset_bounds-across-level
-offset_bounds-across-level c = omega (arith, level-small (goal.at.offset_bounds-across-level c).After-subband_at-subband)
+pub bounds-p-level : goal.bounds-p-level
+bounds-p-level c = level-small (goal.at.bounds-p-level c).After-subband_at-subband
 
-pub bounds-across-level : goal.bounds-across-level
-bounds-across-level c = level-small (goal.at.bounds-across-level c).After-subband_at-subband
+pub offset_bounds-p-level-2 : goal.offset_bounds-p-level-2
+offset_bounds-p-level-2 c = omega (arith, level-small (goal.at.offset_bounds-p-level-2 c).After-subband_at-subband)
 
-pub overflow_cast-result : goal.overflow_cast-result
-overflow_cast-result c = omega (arith, (counts (goal.at.overflow_cast-result c).After-subband_at-subband).across_most)
-
-pub offset_bounds-down-level : goal.offset_bounds-down-level
-offset_bounds-down-level c = omega (arith, level-small (goal.at.offset_bounds-down-level c).After-subband_at-subband)
-
-pub bounds-down-level : goal.bounds-down-level
-bounds-down-level c = level-small (goal.at.bounds-down-level c).After-subband_at-subband
-
-pub overflow_cast-result-2 : goal.overflow_cast-result-2
-overflow_cast-result-2 c = omega (arith, (counts (goal.at.overflow_cast-result-2 c).After-subband_at-subband).down_most)
+pub bounds-p-level-2 : goal.bounds-p-level-2
+bounds-p-level-2 c = level-small (goal.at.bounds-p-level-2 c).After-subband_at-subband
 
 pub returns : goal.returns
 unfolding codeblocks_of
