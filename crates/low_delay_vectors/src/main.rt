@@ -69,10 +69,7 @@ fn run_next(rt: &impl Print, input: &mut impl Read, room: &mut Room) -> io::Resu
 fn has_room(n: Lengths) -> bool
     ensures { result ≡ true → (n.bytes ≤ 16384) × (n.luma ≤ 4096) × (n.first ≤ 4096) × (n.second ≤ 4096) }
 {
-    n.bytes <= BYTES_MOST
-        && n.luma <= PLANE_MOST
-        && n.first <= PLANE_MOST
-        && n.second <= PLANE_MOST
+    n.bytes <= BYTES_MOST && n.luma <= PLANE_MOST && n.first <= PLANE_MOST && n.second <= PLANE_MOST
 }
 
 // Reads the data of a job and runs it in planes of its lengths. Answers whether the input may have another.
