@@ -1,33 +1,27 @@
 -- Laws of sums of taps: one tap more, and sizes that stay within 64 bits.
 -- Assumes nothing.
 use mathlib.Core.Path.{◌≡◌, refl, sym, ap, ◌∙◌}
-use mathlib.Core.Bool.{true}
+use mathlib.Core.Bool.{true, false}
 use mathlib.Core.List.{List, [], ◌∷◌}
 use Prim.Native.Nat.{ℕ, zero, suc, ◌+◌, ◌-◌, ◌*◌, ◌^◌, ◌≤◌, ◌<◌}
 use native.Mathlib.Numerals.{add-one}
 use native.Mathlib.Decide.{dec_lt}
 use native.Mathlib.Nat.{le_refl, add-mul, mul-le-mul_right}
 use native.Mathlib.Omega.{arith}
-use lib.IntN.{ℤ, pos, nat_abs, ◌+ℤ◌, ◌-ℤ◌, ◌*ℤ◌, negsuc, +ℤ_idl, +ℤ_idr, +ℤ_assoc, +ℤ_comm, zero-*ℤ, suc_ℤ-*ℤ, *ℤ_comm, *ℤ-negsuc, neg_ℤ, neg_ℤ-+ℤ}
+use lib.IntN.{ℤ, pos, nat_abs, ◌+ℤ◌, ◌*ℤ◌, negsuc, +ℤ_idl, +ℤ_idr, +ℤ_assoc, +ℤ_comm, zero-*ℤ, suc_ℤ-*ℤ, *ℤ_comm, *ℤ-negsuc, neg_ℤ, neg_ℤ-+ℤ}
 use lib.ListN.{length, get_or, get_or-eq_default, take}
 use lib.Signed.{mag}
+use mir.Syntax.{w32}
+use mir.Val.{to_z, of_z}
+use borrow.Author.Tests.{le-ltb}
+use Rattle.std.proofs.Common.{FitsSigned}
 use Rattle.base.specs.Fill.{fill}
-use Rattle.base.specs.Floor.{floor_div}
 use Rattle.base.specs.Range.{fits32}
 use Rattle.base.proofs.FillLaws.{length-fill, get_d-fill-start}
-use Rattle.base.proofs.RangeLaws.{below-fits32}
-use Rattle.base.proofs.Integers.{mag-size, size-mag, size-add, size-sub, size-mul, size-mul-most}
-use Rattle.base.proofs.FloorLaws.{size-floor}
+use Rattle.base.proofs.RangeLaws.{back, below-fits32}
+use Rattle.base.proofs.Integers.{mag-size, size-mag, size-add, size-mul, size-mul-most}
 use Rattle.lines.specs.Buffers.{Below}
 use Rattle.lines.specs.Sums.{sum_below, sizes_below}
-
--- a plane's entry with a quotient of a sum added or subtracted fits 64 bits
-module _ (v sum : ℤ) (d : ℕ) (hv : mag v < 2 ^ 31) (hs : nat_abs sum ≤ 2 ^ 48) where
-  pub added-small : mag (v +ℤ floor_div sum d) < 2 ^ 63
-  added-small = omega (arith, mag-size (v +ℤ floor_div sum d), size-add v (floor_div sum d), size-mag v, size-floor sum d)
-
-  pub subtracted-small : mag (v -ℤ floor_div sum d) < 2 ^ 63
-  subtracted-small = omega (arith, mag-size (v -ℤ floor_div sum d), size-sub v (floor_div sum d), size-mag v, size-floor sum d)
 
 -- a tap times a plane's entry is at most 2^44 in size, and fits 64 bits, also added to a sum
 pub product_small : (tap v : ℤ) → nat_abs tap ≤ 2 ^ 13 → mag v < 2 ^ 31 → nat_abs (tap *ℤ v) ≤ 2 ^ 44
@@ -232,3 +226,17 @@ sum-taken (suc n) [] g = sym (sum_zeros (λ t. pos 0 *ℤ g t) (suc n) (λ t. ze
 sum-taken (suc n) (x ∷ xs) g =
     sum-front (λ t. get_or (x ∷ take n xs) t (pos 0) *ℤ g t) (length (take n xs))
     ∙ rw (sum-taken n xs (λ t. g (suc t))) (sym (sum-front (λ t. get_or (x ∷ xs) t (pos 0) *ℤ g t) n))
+
+-- a number as a conversion to signed 32 bits tests it, and what it is converted to
+pub fits32-out : (z : ℤ) → (FitsSigned w32 z → ⊥) → fits32 z ≡ false
+unfolding fits32
+fits32-out z outside =
+    elim (dec_lt (mag z) (2 ^ 31)) [
+      | yes small ↦ absurd (outside (record { sfits = small }))
+      | no large ↦ le-ltb (mag z) (2 ^ 31) (omega arith)
+    ]
+
+pub converted : (new wanted fitting : ℤ) → new ≡ wanted → FitsSigned w32 new × (fitting ≡ new) → (to_z w32 (of_z w32 fitting) ≡ wanted) × (fits32 wanted ≡ true)
+converted new wanted fitting same (fits, kept) =
+    let small : FitsSigned w32 wanted = rw same at fits in
+    (rw (kept, same) (back w32 wanted small.sfits), below-fits32 wanted small.sfits)
