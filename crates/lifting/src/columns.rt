@@ -15,7 +15,7 @@ use filters::bounds::Bounds;
 use filters::filter::LiftingStep;
 use std::array;
 
-// Runs one step on one element of every column: the row of pair k that the step changes, in 32 bits where the sizes of the numbers allow it. An error
+// Runs one step on one element of every column: the row of pair k that the step changes, in 32 bits where the sizes of the numbers allow it. Refuses
 // where a new number is outside 32 bits; then the plane's numbers are of no use.
 pub fn lift_row(
     work: &mut [i32],

@@ -28,7 +28,7 @@ pub struct KeptRow {
 }
 
 // Runs the steps of a filter, and its shift, on a row that stands as two halves: what is kept of it goes to the samples, and it is zeroed in the
-// plane. An error where a new number of a step is outside 32 bits; then the numbers of both planes are of no use.
+// plane. Refuses where a new number of a step is outside 32 bits; then the numbers of both planes are of no use.
 pub fn finish_row(
     work: &mut [i32],
     samples: &mut [i32],
@@ -127,8 +127,10 @@ fn lift_halves(
 ) -> Result<(), OutOfRange>
     requires le_half { (1 ≤ half) × (half ≤ 2048) × WellFormedStep step }
     requires halves_within { HalvesWithin half bounds halves.old }
-    ensures told { is_ok result ≡ new_fit 1 (2 * half) (rows (step_of step)) (run 1 (2 * half) (rows (step_of step)) (λ row. interleaved halves.old)) }
-    ensures done { is_ok result ≡ true → (x : ℕ) → x < 2 * half → interleaved halves.new x ≡ lift (step_of step) (2 * half) (interleaved halves.old) x }
+    ensures told { is_ok result
+        ≡ new_fit 1 (2 * half) (rows (step_of step)) (run 1 (2 * half) (rows (step_of step)) (λ row. interleaved halves.old)) }
+    ensures done { is_ok result ≡ true → (x : ℕ) → x < 2 * half → interleaved halves.new x
+        ≡ lift (step_of step) (2 * half) (interleaved halves.old) x }
     ensures bounded { is_ok result ≡ true → HalvesWithin half (bounds_after step bounds) halves.new }
 {
     let source = base_of(!step.even);

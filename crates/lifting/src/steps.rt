@@ -3,7 +3,6 @@ ghost use Rattle.std.specs.Prelude.{◌≡◌, true, ℕ, ◌+◌, ◌^◌, ◌�
 ghost use Rattle.filters.specs.Bounds.{BoundsFit, stays_small, source_bound, target_bound};
 ghost use Rattle.lifting.specs.Lines.{LineInside, LineWithin, LineLifted};
 
-use base::signed;
 use base::status::OutOfRange;
 use filters::bounds::{Bounds, reads_narrow, stays_small};
 use filters::filter::{LiftingStep, rounding_of};
@@ -11,7 +10,7 @@ use lifting32::{LineStep, lift_small};
 use lines::sums::{lift_line, sum_taps};
 use std::array;
 
-// Lifts a line by a step: in 32 bits where the sizes of its numbers and of those that are read allow it, else exactly. An error where a new number is
+// Lifts a line by a step: in 32 bits where the sizes of its numbers and of those that are read allow it, else exactly. Refuses where a new number is
 // outside 32 bits; then the plane's numbers are of no use.
 pub fn lift(
     plane: &mut [i32],
@@ -46,18 +45,17 @@ pub fn lift_in_32_bits(
     ensures { LineLifted step starts.now start width plane.old true plane.new }
 {
     let taps = step.taps;
-    let round = rounding_of(step.scale);
     let line = LineStep {
         start,
         width,
-        round: signed::narrow(round),
+        round: rounding_of(step.scale) as i32,
         scale: step.scale,
     };
     let narrow = reads_narrow(step, bounds);
     lift_small(plane, line, &taps, starts, step.count, step.adds, narrow);
 }
 
-// Lifts a line by a step exactly, in 64 bits, part by part: as many numbers at once as there is room for sums. An error where a new number is outside
+// Lifts a line by a step exactly, in 64 bits, part by part: as many numbers at once as there is room for sums. Refuses where a new number is outside
 // 32 bits; then the plane's numbers are of no use.
 pub fn lift_exactly(
     plane: &mut [i32],
@@ -102,9 +100,5 @@ fn lift_part(
     let round = rounding_of(step.scale);
     let mut exact = [0i64; 256];
     sum_taps(&mut exact, plane, width, &taps, starts, step.count, round);
-    if lift_line(plane, start, &exact, width, step.scale, step.adds) {
-        Ok(())
-    } else {
-        Err(OutOfRange)
-    }
+    lift_line(plane, start, &exact, width, step.scale, step.adds)
 }

@@ -1,14 +1,6 @@
 -- `lifting::columns::lift_row` meets its contract: the sums are those of document 01 at each column, since each tap reads its own row, and no tap
 -- reads the row that is changed.
-use mathlib.Core.Path.{◌≡◌, sym, ◌∙◌}
 use mathlib.Core.Logic.{◌≢◌}
-use mathlib.Core.Bool.{Bool, true}
-use mathlib.Core.List.{List}
-use lib.IntN.{ℤ}
-use Rattle.base.specs.Every.{all_below}
-use Rattle.base.specs.Fill.{fill}
-use Rattle.base.specs.Range.{fits32}
-use Rattle.lifting.specs.Lines.{LineInside, LineWithin, LineLifted, row_start, new_row}
 use Prim.Native.Nat.{ℕ, ◌+◌, ◌*◌, ◌≤◌, ◌<◌}
 use native.Mathlib.Omega.{arith}
 use lib.ListN.{length, get_or}

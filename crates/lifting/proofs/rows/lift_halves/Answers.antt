@@ -1,7 +1,7 @@
 -- `lifting::rows::lift_halves` meets its contract: the half of the elements that the step changes is lifted by the other, whose ends are repeated, as
 -- the indices that are clamped say.
 use mathlib.Core.Path.{◌≡◌}
-use mathlib.Core.Bool.{true, not}
+use mathlib.Core.Bool.{not}
 use mathlib.Core.List.{List}
 use Prim.Native.Nat.{◌+◌, ◌≤◌}
 use native.Mathlib.Omega.{arith}

@@ -4,6 +4,9 @@ use Prim.Native.Nat.{ℕ, ◌+◌, ◌<◌}
 use native.Mathlib.Omega.{arith}
 use lib.IntN.{pos}
 use lib.ListN.{get_or}
+use mathlib.Core.Bool.{true, false≢true}
+use Rattle.std.specs.Prelude.{Result, Ok, Err, is_ok, OnOk}
+use Rattle.base.specs.declared.status.OutOfRange.{OutOfRange}
 use mir.Syntax.{w64}
 use mir.Val.{to_z, of_z}
 use Rattle.base.proofs.EveryLaws.{all_same}
@@ -13,7 +16,7 @@ use Rattle.filters.specs.Lifting.{rounding}
 use Rattle.filters.proofs.LiftingLaws.{rounding-most, rounding-back}
 use Rattle.lifting.specs.Lines.{line_new}
 use Rattle.lifting.proofs.steps.lift_part.Goals as goal
-use Rattle.lifting.proofs.steps.lift_part.Goals.{After-rounding_of-round, After-lift_line}
+use Rattle.lifting.proofs.steps.lift_part.Goals.{After-rounding_of-round}
 
 -- what it is rounded with is document 01's
 rounded : (c : After-rounding_of-round) → to_z w64 (of_z w64 c.rounding_of-round.result) ≡ rounding c.args.step.scale
@@ -23,27 +26,18 @@ pub sum_taps-requires : goal.sum_taps-requires
 sum_taps-requires c =
     let formed = c.requires.0.formed in record { width_bound = (c.requires.1, formed.few_taps, rw (rounded (goal.at.sum_taps-requires c).After-rounding_of-round) (omega (arith, rounding-most c.args.step.scale formed.small_scale))); taps_fit = λ t h. (formed.small_taps t (omega (arith, formed.few_taps)), c.requires.0.sources_inside t h) }
 
--- what lifting by those sums leaves is what the step leaves
-lifted :
-    (c : After-sum_taps) (answer : Bool) (plane' : List ℤ)
-    → let a = c.args in
-    answer ≡ line_fits a.step.adds a.step.scale a.plane.now a.start a.width (number_at c.sum_taps.new.sums)
-    → (answer ≡ true → plane' ≡ line_lifted a.step.adds a.step.scale a.plane.now a.start a.width (number_at c.sum_taps.new.sums))
-    → LineLifted a.step a.starts.now a.start a.width a.plane.now answer plane'
-lifted c answer plane' told done =
+-- what holds where lifting a line answers Ok
+if-ok : {P : Type 0} (r : Result (Unit {0}) OutOfRange) → is_ok r ≡ true → OnOk r P → P
+if-ok (Ok x) fits holds = holds
+if-ok (Err e) wrong holds = absurd (false≢true wrong)
+
+pub returns : goal.returns
+returns c =
     let a = c.args in
     let same : (x : ℕ) → x < a.width → changed a.step.adds a.step.scale (get_or a.plane.now (a.start + x) (pos 0)) (get_or c.sum_taps.new.sums x (pos 0)) ≡ line_new a.step a.starts.now a.plane.now a.start x =
-    λ x h. rw (c.sum_taps.ensures.summed x h, rounded ?) refl
+    λ x h. rw (c.sum_taps.ensures.summed x h, rounded (goal.at.returns c).After-rounding_of-round) refl
     in
     record {
-      told = told ∙ all_same _ _ a.width (λ x h. rw (same x h) refl);
-      done = λ yes. done yes ∙ fill-same a.plane.now a.start _ _ a.width same;
+      told = c.lift_line.ensures.told ∙ all_same _ _ a.width (λ x h. rw (same x h) refl);
+      done = λ yes. if-ok _ yes c.lift_line.ensures.done ∙ fill-same a.plane.now a.start _ _ a.width same;
     }
-
-pub returns-then-lift_line : goal.returns-then-lift_line
-returns-then-lift_line c =
-    lifted (goal.at.returns-then-lift_line c).After-sum_taps true _ (sym c.if-lift_line.true ∙ c.lift_line.ensures.told) (λ yes. c.lift_line.ensures.done c.if-lift_line.true)
-
-pub returns-else-lift_line : goal.returns-else-lift_line
-returns-else-lift_line c =
-    lifted (goal.at.returns-else-lift_line c).After-sum_taps false _ (sym c.if-lift_line.false ∙ c.lift_line.ensures.told) (λ wrong. absurd (false≢true wrong))
