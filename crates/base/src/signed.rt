@@ -9,7 +9,7 @@ ghost use Rattle.base.specs.Sign.{with_sign};
 pub fn widen(x: i32) -> i64
     ensures { result ≡ x }
 {
-    x as i64
+    i64::from(x)
 }
 
 // Whether the number fits signed 32 bits.
@@ -64,7 +64,7 @@ pub fn shift_down(x: i64, s: u32) -> i64
 pub fn third(x: i64) -> i64
     ensures { result ≡ floor_div x 3 }
 {
-    if x < 0 { -1 - (-1 - x) / 3 } else { x / 3 }
+    x.div_euclid(3)
 }
 
 // The number of a size and a sign.
@@ -80,9 +80,5 @@ pub fn with_sign(size: u64, minus: bool) -> i64
 pub fn magnitude(number: i32) -> u64
     ensures { result ≡ nat_abs number }
 {
-    if number < 0 {
-        (-1 - number) as u64 + 1
-    } else {
-        number as u64
-    }
+    u64::from(number.unsigned_abs())
 }

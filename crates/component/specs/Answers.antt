@@ -10,6 +10,6 @@ answer_of (Ok place) = record { status = 0; place = place }
 answer_of (Err refused) = record { status = number_of refused.refusal; place = refused.place }
 
 -- The same where an acceptance says nothing: its place is 0.
-abbrev pub answer_without_place : Result (Unit {0}) Refused → Answer
-answer_without_place (Ok done) = record { status = 0; place = 0 }
-answer_without_place (Err refused) = record { status = number_of refused.refusal; place = refused.place }
+abbrev pub bare_answer_of : Result (Unit {0}) Refused → Answer
+bare_answer_of (Ok done) = record { status = 0; place = 0 }
+bare_answer_of (Err refused) = record { status = number_of refused.refusal; place = refused.place }

@@ -56,21 +56,12 @@ impl From<Result<usize, Refused>> for Answer {
 }
 
 impl From<Result<(), Refused>> for Answer {
-    ghost use Rattle.component.specs.Answers.{answer_without_place};
+    ghost use Rattle.component.specs.Answers.{bare_answer_of};
 
-    ghost from_gives = { λ r a. a ≡ answer_without_place r };
+    ghost from_gives = { λ r a. a ≡ bare_answer_of r };
 
     fn from(outcome: Result<(), Refused>) -> Answer {
-        match outcome {
-            Ok(()) => Answer {
-                status: 0,
-                place: 0,
-            },
-            Err(Refused { refusal, place }) => Answer {
-                status: refusal.number(),
-                place,
-            },
-        }
+        Answer::from(outcome.map(|()| 0))
     }
 }
 

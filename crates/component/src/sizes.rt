@@ -10,8 +10,7 @@ pub fn padded_size(depth: usize, size: usize) -> usize
     requires { (depth ≤ 4) × (size ≤ 4096) }
     ensures { result ≡ padded_size depth size }
 {
-    let s = 1 << depth;
-    (size + (s - 1)) / s * s
+    size.next_multiple_of(1 << depth)
 }
 
 // The padded width of a component.
@@ -31,6 +30,7 @@ pub fn padded_height(p: Parameters) -> usize
 }
 
 // The width or height of a level's bands, from the padded one.
+#[tactic(auto, unfolding(crate::specs::Sizes::band_size))]
 pub fn band_size(depth: usize, padded: usize, level: usize) -> usize
     requires { (depth ≤ 4) × (level ≤ depth) }
     ensures { result ≡ band_size depth padded level }

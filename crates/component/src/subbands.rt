@@ -23,6 +23,7 @@ pub fn subband_count(depth: usize) -> usize
 }
 
 // Subband k in stream order.
+#[tactic(auto, unfolding(crate::specs::Subbands::subband_at, crate::specs::Subbands::subband_level))]
 pub fn subband_at(depth: usize, padded_width: usize, padded_height: usize, k: usize) -> Subband
     requires { (depth ≤ 4) × (k < subband_count depth) }
     ensures { result ≡ subband_at depth padded_width padded_height k }
@@ -40,6 +41,7 @@ pub fn subband_at(depth: usize, padded_width: usize, padded_height: usize, k: us
 }
 
 // The first column of subband k, whose level has bands of this width.
+#[tactic(auto, unfolding(crate::specs::Subbands::orientation_of, crate::specs::Subbands::left_of, crate::specs::Subbands::detail_of))]
 fn left_of(k: usize, width: usize) -> usize
     ensures { result ≡ left_of (orientation_of k) width }
 {
@@ -50,6 +52,7 @@ fn left_of(k: usize, width: usize) -> usize
 }
 
 // The first row of subband k, whose level has bands of this height.
+#[tactic(auto, unfolding(crate::specs::Subbands::orientation_of, crate::specs::Subbands::top_of, crate::specs::Subbands::detail_of))]
 fn top_of(k: usize, height: usize) -> usize
     ensures { result ≡ top_of (orientation_of k) height }
 {
