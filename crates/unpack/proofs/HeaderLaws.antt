@@ -11,17 +11,13 @@ use lib.ListN.{length}
 use lib.Pow.{pow_mono}
 use borrow.Author.Tests.{lt-ltb, le-ltb, eq-eqb, ne_eqb}
 use Rattle.exp_golomb.specs.Bits.{present, take_bit}
-use Rattle.exp_golomb.specs.Codes.{code_from, unsigned}
-use Rattle.exp_golomb.specs.declared.codes.Number.{Number}
-use Rattle.exp_golomb.specs.declared.codes.Number.TheVariants.{Read, Missing, TooLong}
-use Rattle.exp_golomb.proofs.BitsLaws.{taken, takes}
+use Rattle.exp_golomb.specs.Codes.{Number, Read, Missing, TooLong, code_from, unsigned}
+use Rattle.exp_golomb.proofs.BitsLaws.{bit-taken, takes}
 use Rattle.exp_golomb.proofs.CodesLaws.{code-missing, code-ends, code-too-long, code-cut, code-goes-on, value_grows}
 use Rattle.exp_golomb.proofs.Extent.{CodeEnd, unsigned-end, unsigned-same}
 use Rattle.exp_golomb.proofs.Followed.{number-followed}
-use Rattle.unpack.specs.Header.{boundary, refused_at, on_read, header_at}
+use Rattle.unpack.specs.Header.{Header, Skipped, Coded, Refused, boundary, refused_at, on_read, header_at}
 use Rattle.unpack.specs.Bounds.{SoundHeader}
-use Rattle.unpack.specs.declared.header.Header.{Header}
-use Rattle.unpack.specs.declared.header.Header.TheVariants.{Skipped, Coded, Refused}
 
 -- a bit is there before an end that is out of its reach just where it is there before the bytes' own end
 present-open : (bytes : List ℕ) (end k : ℕ) → k < end → present bytes end k ≡ present bytes (8 * length bytes) k
@@ -64,7 +60,7 @@ module _ (bytes : List ℕ) (end : ℕ) (stated : Bool) where
             takes (size_read (code_from bytes end stated (suc left) v i) < 2 ^ 32) (take_bit bytes end stated next)
             (λ d after e2.
             let less : suc left - 1 ≡ left = omega arith in
-            let grown : 2 * v + d < 2 ^ (32 - left) = rw less at (value_grows v d (suc left) few (omega arith) (taken bytes end stated next d after e2).small below) in
+            let grown : 2 * v + d < 2 ^ (32 - left) = rw less at (value_grows v d (suc left) few (omega arith) (bit-taken bytes end stated next d after e2).small below) in
             rw (code-goes-on bytes end stated (suc left) v i bit next d after e other (omega arith) e2, less)
             (code-small left (2 * v + d) after (omega arith) grown))
             (λ e2. rw (code-cut bytes end stated (suc left) v i bit next e other (omega arith) e2) (omega arith))

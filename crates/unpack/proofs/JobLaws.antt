@@ -16,10 +16,8 @@ use Rattle.component.specs.Subbands.{subband_count}
 use Rattle.component.specs.declared.parameters.Parameters.{Parameters}
 use Rattle.component.specs.declared.parameters.Job.TheVariants.{Unpack}
 use Rattle.component.proofs.ChecksLaws.{passed}
-use Rattle.coefficients.specs.Reading.{Run, goes_on}
+use Rattle.coefficients.specs.Reading.{Progress, At, Refused, Run, goes_on}
 use Rattle.coefficients.specs.Values.{after}
-use Rattle.coefficients.specs.declared.reading.Progress.{Progress}
-use Rattle.coefficients.specs.declared.reading.Progress.TheVariants.{At, Refused}
 use Rattle.unpack.specs.Subband.{subband}
 use Rattle.unpack.specs.Job.{UnpackResult, ended_with, subbands_from, unpacked}
 use Rattle.unpack.specs.Bounds.{Checked}

@@ -16,9 +16,8 @@ use Rattle.component.specs.declared.parameters.Parameters.{Parameters}
 use Rattle.component.proofs.SizesLaws.{padded-most}
 use Rattle.component.proofs.SubbandsLaws.{subband-inside}
 use Rattle.component.proofs.ChecksLaws.{width_most, height_most, depth_most, counts-at}
-use Rattle.coefficients.specs.Reading.{Run, goes_on, stops, going}
+use Rattle.coefficients.specs.Reading.{At, Refused, Run, goes_on, stops, going}
 use Rattle.coefficients.specs.Values.{after}
-use Rattle.coefficients.specs.declared.reading.Progress.TheVariants.{At, Refused}
 use Rattle.codeblocks.specs.Blocks.{Counted, Placed}
 use Rattle.codeblocks.specs.declared.CodeblockGrid.{CodeblockGrid}
 use Rattle.prediction.specs.Prediction.{ended, prediction}

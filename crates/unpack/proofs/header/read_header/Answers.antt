@@ -6,9 +6,7 @@ use Prim.Native.Nat.{ℕ, ◌*◌, ◌^◌, ◌<◌, min}
 use native.Mathlib.Omega.{arith}
 use lib.ListN.{length}
 use mathlib.Core.List.{List}
-use Rattle.exp_golomb.specs.Codes.{unsigned}
-use Rattle.exp_golomb.specs.declared.codes.Number.{Number}
-use Rattle.exp_golomb.specs.declared.codes.Number.TheVariants.{Read}
+use Rattle.exp_golomb.specs.Codes.{Number, Read, unsigned}
 use Rattle.exp_golomb.proofs.Extent.{CodeEnd, unsigned-end}
 use Rattle.unpack.proofs.HeaderLaws.{number-open, no_length, no-data, no_index, header_read}
 use Rattle.unpack.proofs.header.read_header.Goals as goal
