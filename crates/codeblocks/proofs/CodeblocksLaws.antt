@@ -15,8 +15,7 @@ use borrow.Author.Tests.{eq-eqb, ne_eqb}
 use Rattle.base.specs.Walk.{walk}
 use Rattle.base.proofs.WalkLaws.{walk-flat, walk-holds}
 use Rattle.component.specs.Subbands.{InSubband}
-use Rattle.exp_golomb.specs.Bits.{take_bit}
-use Rattle.exp_golomb.specs.declared.bits.Bit.TheVariants.{Taken}
+use Rattle.exp_golomb.specs.Bits.{Taken, take_bit}
 use Rattle.exp_golomb.proofs.BitsLaws.{stated-bit}
 use Rattle.coefficients.specs.Reading.{Progress, At, Refused, Run, goes_on, stops, going}
 use Rattle.coefficients.proofs.ReadingLaws.{Stays, rectangle-stays}

@@ -9,9 +9,8 @@ use native.Mathlib.Omega.{arith}
 use lib.Dec.{eqb}
 use Rattle.std.specs.Prelude.{None, Some}
 use Rattle.std.proofs.lemmas.Option.{none-some}
-use Rattle.exp_golomb.specs.Bits.{present, take_bit}
-use Rattle.exp_golomb.specs.declared.bits.Bit.TheVariants.{Taken, Absent}
-use Rattle.exp_golomb.proofs.BitsLaws.{present-below, take-past-stated, take-absent, taken, absent-past, stated-bit}
+use Rattle.exp_golomb.specs.Bits.{Taken, Absent, present, take_bit}
+use Rattle.exp_golomb.proofs.BitsLaws.{present-below, take-past-stated, take-absent, bit-taken, absent-past, stated-bit}
 use Rattle.exp_golomb.proofs.BeginsLaws.{bit-begins}
 use Rattle.coefficients.specs.declared.reading.Cursor.{Cursor}
 use Rattle.codeblocks.specs.Flags.{Flagged}
@@ -31,7 +30,7 @@ taken-before bytes end stated i bit next e before = by (present bytes end i) ref
         absurd (omega arith)
 
     by : (there : Bool) → present bytes end i ≡ there → next ≤ end
-    by true p = omega (arith, present-below bytes end i p, (taken bytes end stated i bit next e).one_at_most)
+    by true p = omega (arith, present-below bytes end i p, (bit-taken bytes end stated i bit next e).one_at_most)
     by false p = past p stated refl
 
 module _ (count : ℕ) (bytes : List ℕ) (c : Cursor) where

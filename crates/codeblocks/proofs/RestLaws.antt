@@ -13,8 +13,7 @@ use Rattle.base.specs.Refusals.{number_of}
 use Rattle.base.specs.Walk.{walk}
 use Rattle.base.specs.declared.status.Fault.{Fault}
 use Rattle.base.proofs.WalkLaws.{walk_first, walk-past}
-use Rattle.exp_golomb.specs.Bits.{take_bit}
-use Rattle.exp_golomb.specs.declared.bits.Bit.TheVariants.{Taken}
+use Rattle.exp_golomb.specs.Bits.{Taken, take_bit}
 use Rattle.exp_golomb.proofs.BeginsLaws.{begins-itself}
 use Rattle.coefficients.specs.Reading.{Run, goes_on}
 use Rattle.coefficients.specs.Values.{after}

@@ -1,8 +1,7 @@
 -- The code's own form: a codeblock's flag. No definition of the format rests on it.
 use Rattle.std.specs.Prelude.{ℕ, ◌+◌, ◌*◌, ◌≤◌, min, ◌≡◌, ◌≢◌, true, false, Option, None, Some, List, eqb, length}
 use Rattle.exp_golomb.specs.Begins.{Begins}
-use Rattle.exp_golomb.specs.Bits.{take_bit}
-use Rattle.exp_golomb.specs.declared.bits.Bit.TheVariants.{Taken}
+use Rattle.exp_golomb.specs.Bits.{Taken, take_bit}
 use Rattle.coefficients.specs.declared.reading.Cursor.{Cursor}
 use Rattle.codeblocks.specs.declared.Flag.{Flag}
 

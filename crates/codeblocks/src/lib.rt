@@ -4,7 +4,6 @@
 ghost use Rattle.std.specs.Prelude.{◌≡◌, cond, ◌+◌, ◌*◌, ◌≤◌, ◌<◌};
 ghost use Rattle.component.specs.Reciprocal.{reciprocal_of};
 ghost use Rattle.coefficients.specs.Scaling.{scale_of};
-ghost use Rattle.coefficients.specs.Values.{Decoding};
 ghost use Rattle.coefficients.specs.Portions.{Sound};
 ghost use Rattle.codeblocks.specs.Blocks.{count_of, Counted, Placed, block_at, block_before};
 ghost use Rattle.codeblocks.specs.Flags.{Flagged};
@@ -12,11 +11,11 @@ ghost use Rattle.codeblocks.specs.Rest.{ClearBlocks};
 ghost use Rattle.codeblocks.specs.Portions.{BlocksRead};
 
 use base::status::Fault;
-use coefficients::quantiser::Quantiser;
 use coefficients::reading::{Cursor, Rectangle};
+use coefficients::values::Decoder;
 use component::partition::{part_start, part_start_by, reciprocal_of};
 use component::subbands::Subband;
-use exp_golomb::bits::{Bit, take_bit};
+use exp_golomb::bits::take_bit;
 use rectangles::read_values;
 
 // The codeblocks of a subband: its rectangle of a plane whose rows are a stride apart, and their counts across and down.
@@ -67,13 +66,11 @@ pub fn read_codeblocks(
     from: Position,
     bytes: &[u8],
     cursor: Cursor,
-    q: Quantiser,
-    table: &[u16; 256],
-    small: &[i32; 32],
+    decoder: Decoder,
 ) -> Reached
     requires { Placed blocks plane.old × (from.begun ≤ count_of blocks) × ClearBlocks blocks from plane.old
-        × Sound cursor × Decoding q table.now small.now }
-    ensures { BlocksRead bytes.now cursor (scale_of q) blocks from plane.old result plane.new }
+        × Sound cursor }
+    ensures { BlocksRead bytes.now cursor (scale_of decoder.entry.q) blocks from plane.old result plane.new }
 {
     let count = blocks.across * blocks.down;
     let mut position = from;
@@ -81,16 +78,7 @@ pub fn read_codeblocks(
     let reciprocal = reciprocal_of(blocks.across);
     let mut next = cursor;
     loop {
-        let part = read_values(
-            plane,
-            block.area,
-            position.values,
-            bytes,
-            next,
-            q,
-            table,
-            small,
-        );
+        let part = read_values(plane, block.area, position.values, bytes, next, decoder);
         position.values = part.count;
         let Ok(bit) = part.progress else {
             return Reached {
@@ -130,12 +118,10 @@ fn read_flag(count: usize, bytes: &[u8], cursor: Cursor) -> Option<Flag>
             bit: cursor.bit,
         });
     }
-    let Bit::Taken { bit, next } = take_bit(bytes, cursor.end, cursor.stated, cursor.bit) else {
-        return None;
-    };
+    let taken = take_bit(bytes, cursor.end, cursor.stated, cursor.bit)?;
     Some(Flag {
-        skipped: bit == 1,
-        bit: next,
+        skipped: taken.bit == 1,
+        bit: taken.next,
     })
 }
 

@@ -18,9 +18,7 @@ use Rattle.base.specs.Sign.{with_sign}
 use Rattle.base.specs.Walk.{walk}
 use Rattle.exp_golomb.specs.Begins.{Begins}
 use Rattle.exp_golomb.specs.Bits.{present}
-use Rattle.exp_golomb.specs.Codes.{code_from, unsigned, signed}
-use Rattle.exp_golomb.specs.declared.codes.Number.{Number}
-use Rattle.exp_golomb.specs.declared.codes.Number.TheVariants.{Read, Missing, TooLong}
+use Rattle.exp_golomb.specs.Codes.{Number, Read, Missing, TooLong, code_from, unsigned, signed}
 use Rattle.exp_golomb.proofs.BeginsLaws.{bit-begins}
 use Rattle.exp_golomb.proofs.BitsLaws.{take-past-stated}
 use Rattle.exp_golomb.proofs.CodesLaws.{code-ends, sign-none}

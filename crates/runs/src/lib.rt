@@ -4,8 +4,8 @@
 
 ghost use Rattle.std.specs.Prelude.{◌≡◌, true, false, ◌+◌, ◌≤◌, ◌<◌, min, length};
 ghost use Rattle.coefficients.specs.Reading.{goes_on};
-ghost use Rattle.coefficients.specs.Scaling.{scale_of, Bounded, small_fit};
-ghost use Rattle.coefficients.specs.Values.{after, index_of, entries, Ready, Decoding};
+ghost use Rattle.coefficients.specs.Scaling.{scale_of, small_fit};
+ghost use Rattle.coefficients.specs.Values.{after, index_of, entries, Ready};
 ghost use Rattle.coefficients.specs.Portions.{Sound, Reads};
 ghost use Rattle.runs.specs.Runs.{side_by_side, Fresh, SoundSpan, Inside, BeforeEnd};
 
@@ -14,10 +14,10 @@ mod padded;
 
 use base::status::Fault;
 use batches::read_batch;
-use coefficients::quantiser::{Quantiser, small_fit};
-use coefficients::reading::{Cursor, Portion};
-use coefficients::values::{not_read, store_value};
-use exp_golomb::codes::{Number, read_signed};
+use coefficients::quantiser::small_fit;
+use coefficients::reading::{Cursor, Portion, Quantiser};
+use coefficients::values::{Decoder, not_read, store_value};
+use exp_golomb::codes::read_signed;
 use padded::padded_window;
 
 // Where a part of data stands: its next bit, the bit at which it ends, and the bit of all the bytes that its first bit is. Past its end bits
@@ -35,13 +35,11 @@ pub fn read_run(
     n: usize,
     bytes: &[u8],
     span: Span,
-    q: Quantiser,
-    table: &[u16; 256],
-    small: &[i32; 32],
+    decoder: Decoder,
 ) -> Result<usize, Fault>
-    requires { Fresh n run.old × SoundSpan span × Decoding q table.now small.now }
+    requires { Fresh n run.old × SoundSpan span }
     ensures read { after result run.new
-        ≡ entries bytes.now span.end span.origin (scale_of q) (λ k. k) 0 n (goes_on span.bit run.old) }
+        ≡ entries bytes.now span.end span.origin (scale_of decoder.entry.q) (λ k. k) 0 n (goes_on span.bit run.old) }
     ensures inside { BeforeEnd span.end result }
 {
     // The bit at which the data end: the span's, or where the bytes do.
@@ -59,7 +57,7 @@ pub fn read_run(
             stated: true,
             origin: span.origin,
         };
-        let part = read_some(run, n, i, bytes, cursor, q, table, small);
+        let part = read_some(run, n, i, bytes, cursor, decoder);
         i += part.count;
         bit = part.progress?;
     }
@@ -73,18 +71,16 @@ fn read_some(
     i: usize,
     bytes: &[u8],
     cursor: Cursor,
-    q: Quantiser,
-    table: &[u16; 256],
-    small: &[i32; 32],
+    decoder: Decoder,
 ) -> Portion
-    requires { (i < n) × Ready (side_by_side n) i run.old × Inside bytes.now cursor × Decoding q table.now small.now }
-    ensures read { Reads bytes.now cursor (scale_of q) (index_of (side_by_side n)) i run.old result run.new }
+    requires { (i < n) × Ready (side_by_side n) i run.old × Inside bytes.now cursor }
+    ensures read { Reads bytes.now cursor (scale_of decoder.entry.q) (index_of (side_by_side n)) i run.old result run.new }
     ensures some { (1 ≤ result.count) × (i + result.count ≤ n) }
 {
-    if small_fit(q) {
-        return read_window(run, n, i, bytes, cursor, q, table, small);
+    if small_fit(decoder.q) {
+        return read_window(run, n, i, bytes, cursor, decoder);
     }
-    read_value(run, i, bytes, cursor, q)
+    read_value(run, i, bytes, cursor, decoder.q)
 }
 
 // Reads values by the next bits, with ones for those past the end, or one value where none ends in them.
@@ -94,19 +90,17 @@ fn read_window(
     i: usize,
     bytes: &[u8],
     cursor: Cursor,
-    q: Quantiser,
-    table: &[u16; 256],
-    small: &[i32; 32],
+    decoder: Decoder,
 ) -> Portion
-    requires ready { (i < n) × Ready (side_by_side n) i run.old × Inside bytes.now cursor × Decoding q table.now small.now }
-    requires fit { small_fit q ≡ true }
-    ensures read { Reads bytes.now cursor (scale_of q) (index_of (side_by_side n)) i run.old result run.new }
+    requires ready { (i < n) × Ready (side_by_side n) i run.old × Inside bytes.now cursor }
+    requires fit { small_fit decoder.q ≡ true }
+    ensures read { Reads bytes.now cursor (scale_of decoder.entry.q) (index_of (side_by_side n)) i run.old result run.new }
     ensures some { (1 ≤ result.count) × (i + result.count ≤ n) }
 {
     let w = padded_window(bytes, cursor.end, cursor.bit);
-    let batch = read_batch(run, n, i, w, table, small);
+    let batch = read_batch(run, n, i, w, decoder);
     if batch.count == 0 {
-        return read_value(run, i, bytes, cursor, q);
+        return read_value(run, i, bytes, cursor, decoder.q);
     }
     Portion {
         count: batch.count,
@@ -117,18 +111,16 @@ fn read_window(
 
 // Reads value i.
 fn read_value(run: &mut [i32], i: usize, bytes: &[u8], cursor: Cursor, q: Quantiser) -> Portion
-    requires { (i < length run.old) × Sound cursor × Bounded q }
+    requires { (i < length run.old) × Sound cursor }
     ensures read { Reads bytes.now cursor (scale_of q) (λ k. k) i run.old result run.new }
     ensures one { (result.count ≤ 1) × (result.short ≡ false → 1 ≤ result.count) }
 {
-    let number = read_signed(bytes, cursor.end, cursor.stated, cursor.bit);
-    let Number::Read { size, minus, next } = number else {
-        return not_read(number, cursor);
-    };
-    let progress = store_value(run, i, size, minus, next, q, cursor.origin);
-    Portion {
-        count: 1,
-        progress,
-        short: false,
+    match read_signed(bytes, cursor.end, cursor.stated, cursor.bit) {
+        Ok(number) => Portion {
+            count: 1,
+            progress: store_value(run, i, number, q, cursor.origin),
+            short: false,
+        },
+        Err(fault) => not_read(fault, cursor),
     }
 }

@@ -26,12 +26,11 @@ read_values-part-requires c =
       area-before-inside _ _ placed _ c.loop-bit.invariant.0.most,
       c.loop-bit.invariant.0.clear.begun_last,
       sound-again _ _ c.loop-bit.invariant.1 (c.loop-bit.invariant.0.before_end _ refl) c.requires.3,
-      c.requires.4,
     )
 
 -- what the values that were read leave
 read : (c : After-read_values-part) →
-    Sofar c.args.bytes.now c.args.cursor (scale_of c.args.q) c.args.blocks c.args.from c.args.plane.now
+    Sofar c.args.bytes.now c.args.cursor (scale_of c.args.decoder.q) c.args.blocks c.args.from c.args.plane.now
     (at_value c.loop-bit.position.begun c.read_values-part.result.count) c.read_values-part.result.progress c.read_values-part.new.plane
 read c =
     sofar-values _ _ _ _ _ _ c.requires.0.counted _ c.loop-bit.position.values c.loop-bit.next c.loop-bit.plane _ c.loop-bit.block.area _ c.loop-bit.invariant.0 c.loop-bit.invariant.1 (ap (λ (k : PlacedCodeblock). k.area) c.loop-bit.invariant.2) c.read_values-part.ensures

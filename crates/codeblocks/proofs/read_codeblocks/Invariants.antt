@@ -10,7 +10,7 @@ use Rattle.codeblocks.proofs.read_codeblocks.Given as goal
 
 abbrev pub invariant-loop-bit : goal.invariant-loop-bit
 invariant-loop-bit l =
-    Sofar l.bytes l.initial.next (scale_of l.q) l.blocks l.initial.position l.initial.plane l.position (Ok l.next.bit) l.plane × Follows l.initial.next l.next
+    Sofar l.bytes l.initial.next (scale_of l.decoder.q) l.blocks l.initial.position l.initial.plane l.position (Ok l.next.bit) l.plane × Follows l.initial.next l.next
     × (l.block ≡ block_before l.blocks l.position.begun)
 
 abbrev pub decreases-loop-bit : goal.decreases-loop-bit

@@ -27,7 +27,6 @@ pub read_run-part-requires : goal.read_run-part-requires
 read_run-part-requires c = (
   run-ready _ _ _ c.layout_of-layout.ensures _ (inside-same c.loop-i.invariant.1.same_length c.requires.0) c.loop-i.invariant.1.clear,
   rw c.loop-i.invariant.0 (moved-sound _ _ (c.loop-i.invariant.1.before_end _ refl) c.requires.2),
-  c.requires.3,
 )
 
 pub overflow_add-i : goal.overflow_add-i
@@ -37,13 +36,13 @@ overflow_add-i c =
 -- what the run read, of the data that the cursor has
 reads-run : (c : After-struct_known-in-loop-i-1) →
     let args = c.args in
-    Reads args.bytes.now (moved args.cursor c.loop-i.next.bit) (scale_of args.q) (index_of c.layout_of-layout.result) c.loop-i.i c.loop-i.plane c.read_run-part.result c.read_run-part.new.plane
+    Reads args.bytes.now (moved args.cursor c.loop-i.next.bit) (scale_of args.decoder.q) (index_of c.layout_of-layout.result) c.loop-i.i c.loop-i.plane c.read_run-part.result c.read_run-part.new.plane
 reads-run c = rw c.loop-i.invariant.0 at c.read_run-part.ensures.read
 
 -- so the run is a step
 step : (c : After-struct_known-in-loop-i-1) →
     let args = c.args in
-    SoFar args.bytes.now args.cursor (scale_of args.q) args.area args.from args.plane.now c.read_run-part.result.progress (c.loop-i.i + c.read_run-part.result.count) c.read_run-part.new.plane
+    SoFar args.bytes.now args.cursor (scale_of args.decoder.q) args.area args.from args.plane.now c.read_run-part.result.progress (c.loop-i.i + c.read_run-part.result.count) c.read_run-part.new.plane
 step c =
     so-far-on c.args.area c.loop-i.i _ c.layout_of-layout.ensures _ _ _ _ _ _ _ (reads-run c) c.read_run-part.ensures.some.0 _ _ c.requires.0.wide c.loop-i.invariant.1 c.read_run-part.auto.plane
 

@@ -33,7 +33,6 @@ read_some-part-requires c =
       omega arith,
       side-ready _ _ _ _ c.requires.0 c.loop-i.auto.run inv.0 (up-to-clear _ _ _ _ _ _ _ _ _ inv.2 _ c.requires.0),
       record { is_stated = refl; before_end = omega arith; there = omega arith; small = omega (arith, c.requires.1.small) },
-      c.requires.2,
     )
 
 pub returns-in_err-bit-clause-read : goal.returns-in_err-bit-clause-read

@@ -8,7 +8,7 @@ use Rattle.runs.proofs.RunsLaws.{up_to}
 use Rattle.runs.proofs.read_run.Given as goal
 
 abbrev pub invariant-loop-i : goal.invariant-loop-i
-invariant-loop-i l = (l.i ≤ l.n) × (l.bit ≤ l.fn.span.end) × (up_to l.bytes l.fn.span.end l.fn.span.origin (scale_of l.q) l.fn.span.bit l.initial.run l.i ≡ goes_on l.bit l.run)
+invariant-loop-i l = (l.i ≤ l.n) × (l.bit ≤ l.fn.span.end) × (up_to l.bytes l.fn.span.end l.fn.span.origin (scale_of l.decoder.q) l.fn.span.bit l.initial.run l.i ≡ goes_on l.bit l.run)
 
 abbrev pub decreases-loop-i : goal.decreases-loop-i
 decreases-loop-i l = l.n - l.i

@@ -10,7 +10,7 @@ read_window-requires c =
 
 pub read_value-requires : goal.read_value-requires
 read_value-requires c =
-    (side-inside _ _ _ c.requires.1 _ c.requires.0, inside-sound _ _ c.requires.2, c.requires.3.bounded)
+    (side-inside _ _ _ c.requires.1 _ c.requires.0, inside-sound _ _ c.requires.2)
 
 pub returns : goal.returns
 returns c =

@@ -12,12 +12,12 @@ use Rattle.runs.proofs.read_window.Goals.{Then-batch-eq0}
 same-run : (c : Then-batch-eq0) →
     c.read_batch-batch.new.run ≡ c.args.run.now
 same-run c =
-    none-padded _ c.args.cursor (scale_of c.args.q) (index_of (side_by_side c.args.n)) c.args.i _ _ _ c.read_batch-batch.result _ (c.requires.ready.3.small_values c.requires.fit)
+    none-padded _ c.args.cursor (scale_of c.args.decoder.q) (index_of (side_by_side c.args.n)) c.args.i _ _ _ c.read_batch-batch.result _ (c.args.decoder.known.small_values c.requires.fit)
     c.requires.ready.2 c.padded_window-w.ensures c.read_batch-batch.ensures.1 c.if-batch-eq0.true
 
 pub read_value-requires : goal.read_value-requires
 read_value-requires c =
-    (rw (same-run (goal.at.read_value-requires c).Then-batch-eq0) (side-inside _ _ _ c.requires.ready.1 _ c.requires.ready.0), inside-sound _ _ c.requires.ready.2, c.requires.ready.3.bounded)
+    (rw (same-run (goal.at.read_value-requires c).Then-batch-eq0) (side-inside _ _ _ c.requires.ready.1 _ c.requires.ready.0), inside-sound _ _ c.requires.ready.2)
 
 pub returns-then-batch-eq0 : goal.returns-then-batch-eq0
 returns-then-batch-eq0 c =
@@ -27,7 +27,7 @@ returns-then-batch-eq0 c =
 pub returns : goal.returns
 returns c =
     record {
-      read = portion-padded _ c.args.cursor _ (index_of (side_by_side c.args.n)) _ _ _ _ c.read_batch-batch.result _ (c.requires.ready.3.small_values c.requires.fit) c.requires.ready.2
+      read = portion-padded _ c.args.cursor _ (index_of (side_by_side c.args.n)) _ _ _ _ c.read_batch-batch.result _ (c.args.decoder.known.small_values c.requires.fit) c.requires.ready.2
           c.padded_window-w.ensures c.read_batch-batch.ensures.1 _ (omega arith);
       some = (omega (arith, c.if-batch-eq0.false), c.read_batch-batch.ensures.0);
     }

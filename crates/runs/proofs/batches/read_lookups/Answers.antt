@@ -12,7 +12,7 @@ use Rattle.runs.proofs.batches.read_lookups.Goals as goal
 use Rattle.runs.proofs.batches.read_lookups.Goals.{At-loop}
 
 pub loop-init : goal.loop-init
-loop-init c = (omega arith, c.requires.0.counted, taken_none _ _ _ _ _ c.requires.0)
+loop-init c = (omega arith, c.requires.counted, taken_none _ _ _ _ _ c.requires)
 
 pub overflow_add-to : goal.overflow_add-to
 overflow_add-to c = omega arith
@@ -25,8 +25,8 @@ overflow_add-result c = omega arith
 
 pub returns-then-n-to : goal.returns-then-n-to
 returns-then-n-to c = (
-  omega (arith, c.requires.0.counted),
-  taken-zeros _ _ _ _ _ c.requires.0 _ _ _ _ c.lookup_at-lookup.result (omega arith) c.loop.invariant.2 c.lookup_at-lookup.ensures
+  omega (arith, c.requires.counted),
+  taken-zeros _ _ _ _ _ c.requires _ _ _ _ c.lookup_at-lookup.result (omega arith) c.loop.invariant.2 c.lookup_at-lookup.ensures
       (c.args.n - c.loop.i) _ (omega arith) (omega arith) (omega arith),
 )
 
@@ -43,7 +43,7 @@ returns-then-lookup-eq0 c =
 
 pub bounds-run-to : goal.bounds-run-to
 bounds-run-to c =
-    rw c.loop.invariant.2.same (side-inside _ _ _ c.requires.0 _ (omega arith))
+    rw c.loop.invariant.2.same (side-inside _ _ _ c.requires _ (omega arith))
 
 pub overflow_add-bits : goal.overflow_add-bits
 overflow_add-bits c = omega arith
@@ -53,8 +53,8 @@ loop-preserved c =
     let fits : c.loop.i + c.lookup_at-lookup.result.zeros < c.args.n = omega arith in (
       omega arith,
       omega (arith, lookup-count _ _ c.lookup_at-lookup.ensures),
-      rw (back w32 (get_or c.args.small.now c.lookup_at-lookup.result.value (pos 0)) c.run-1.given)
-          (rw (side-index c.args.n) at (taken-lookup _ _ (side_by_side c.args.n) _ _ c.requires.0 _ _ _ _ _ (omega arith) c.loop.invariant.2 c.lookup_at-lookup.ensures fits)),
+      rw (back w32 (get_or c.args.decoder.small.now c.lookup_at-lookup.result.value (pos 0)) c.run-1.given)
+          (rw (side-index c.args.n) at (taken-lookup _ _ (side_by_side c.args.n) _ _ c.requires _ _ _ _ _ (omega arith) c.loop.invariant.2 c.lookup_at-lookup.ensures fits)),
     )
 
 pub overflow_sub-result-2 : goal.overflow_sub-result-2

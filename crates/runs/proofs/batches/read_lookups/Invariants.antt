@@ -6,4 +6,4 @@ use Rattle.runs.specs.Runs.{side_by_side}
 use Rattle.runs.proofs.batches.read_lookups.Given as goal
 
 abbrev pub invariant-loop : goal.invariant-loop
-invariant-loop l = (l.bits ≤ 8 * l.counter) × (l.i ≤ l.n) × Taken l.window l.small (side_by_side l.n) l.from l.initial.run l.w l.i l.bits l.run
+invariant-loop l = (l.bits ≤ 8 * l.counter) × (l.i ≤ l.n) × Taken l.window l.decoder.small.now (side_by_side l.n) l.from l.initial.run l.w l.i l.bits l.run
