@@ -3,14 +3,16 @@
 use mathlib.Core.Path.{◌≡◌, sym, ◌∙◌}
 use mathlib.Core.Bool.{true, false}
 use Prim.Native.Nat.{◌^◌, ◌<◌}
+use native.Mathlib.Decide.{dec_lt}
+use native.Mathlib.Omega.{arith}
 use lib.Dec.{leb-suc-suc}
 use lib.IntN.{ℤ, pos, negsuc}
 use lib.Signed.{mag, le_z}
-use mir.Syntax.{Width, w64}
+use mir.Syntax.{Width, w32, w64}
 use Rattle.std.proofs.Common.{FitsSigned}
 use mir.Val.{to_z, of_z, hbits}
 use mir.ValLaws.{to_z-of_z}
-use borrow.Author.Tests.{lt-ltb, ltb-true}
+use borrow.Author.Tests.{lt-ltb, le-ltb, ltb-true}
 use Rattle.base.specs.Range.{fits32}
 
 -- a number that fits is what its bits say
@@ -25,6 +27,14 @@ fits32-below z e = ltb-true (mag z) (2 ^ 31) e
 pub below-fits32 : (z : ℤ) → mag z < 2 ^ 31 → fits32 z ≡ true
 unfolding fits32
 below-fits32 z h = lt-ltb (mag z) (2 ^ 31) h
+
+pub fits32-outside : (z : ℤ) → (FitsSigned w32 z → ⊥) → fits32 z ≡ false
+unfolding fits32
+fits32-outside z wide =
+    elim (dec_lt (mag z) (2 ^ 31)) [
+      | yes below ↦ absurd (wide (record { sfits = below }))
+      | no not_below ↦ le-ltb (mag z) (2 ^ 31) (omega arith)
+    ]
 
 -- the range as the code tests it: from below, then from above
 pub fits32-upper : (z : ℤ) → le_z (negsuc 2147483647) z ≡ true → le_z z (pos 2147483647) ≡ fits32 z

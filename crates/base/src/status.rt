@@ -3,6 +3,8 @@
 ghost use Rattle.std.specs.Prelude.{◌≡◌};
 ghost use Rattle.base.specs.Refusals.{number_of};
 
+use std::num::TryFromIntError;
+
 // A refusal, by what is wrong.
 #[derive(Clone, Copy, Debug, PartialEq, Eq)]
 pub enum Refusal {
@@ -40,6 +42,12 @@ pub struct Fault {
 // A number came out outside signed 32 bits.
 #[derive(Clone, Copy, Debug, PartialEq, Eq)]
 pub struct OutOfRange;
+
+impl From<TryFromIntError> for OutOfRange {
+    fn from(_wide: TryFromIntError) -> OutOfRange {
+        OutOfRange
+    }
+}
 
 pub const ACCEPTED: u32 = 0;
 

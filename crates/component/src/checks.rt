@@ -5,7 +5,7 @@ ghost use Rattle.component.specs.Checks.{in_range, unpacks, transforms, area_of,
 ghost use Rattle.component.specs.Sized.{Sized};
 
 use crate::parameters::{Job, Lengths, Parameters};
-use crate::sizes::{padded_height, padded_width};
+use crate::sizes::padded_size;
 use base::limits;
 use base::status::Refusal;
 
@@ -124,7 +124,8 @@ pub fn padded_area(p: Parameters) -> usize
     requires { Sized p }
     ensures { result ≡ area_of p }
 {
-    padded_width(p) * padded_height(p)
+    let depth = p.depth as usize;
+    padded_size(depth, p.width as usize) * padded_size(depth, p.height as usize)
 }
 
 // Whether parameters have a padded area, of at most so many entries.

@@ -11,7 +11,7 @@ pub struct Parameters {
     pub depth: u32,
     pub wavelet: u32,
     pub intra: bool,
-    // Codeblock counts for levels 0 to 4. Those above the depth are not looked at.
+    // Codeblock counts for levels 0 to 4, in two arrays as C has them. Those above the depth are not looked at.
     pub codeblocks_across: [u32; 5],
     pub codeblocks_down: [u32; 5],
 }
@@ -32,7 +32,7 @@ impl From<Refusal> for Refused {
     }
 }
 
-// What a job answers, in numbers: 0 or a refusal's number, and its place.
+// What a job answers, in numbers as C and the program's text have it: 0 or a refusal's number, and its place.
 #[derive(Clone, Copy, Debug, PartialEq, Eq)]
 pub struct Answer {
     pub status: u32,

@@ -1,9 +1,6 @@
 // Document 01, "Sizes and the coefficient plane": padded sizes and the sizes of bands.
 ghost use Rattle.std.specs.Prelude.{◌≡◌, ◌≤◌};
-ghost use Rattle.component.specs.Sizes.{padded_size, band_size, padded_width, padded_height};
-ghost use Rattle.component.specs.Sized.{Sized};
-
-use crate::parameters::Parameters;
+ghost use Rattle.component.specs.Sizes.{padded_size, band_size};
 
 // The size rounded up to a multiple of 2^depth.
 pub fn padded_size(depth: usize, size: usize) -> usize
@@ -11,22 +8,6 @@ pub fn padded_size(depth: usize, size: usize) -> usize
     ensures { result ≡ padded_size depth size }
 {
     size.next_multiple_of(1 << depth)
-}
-
-// The padded width of a component.
-pub fn padded_width(p: Parameters) -> usize
-    requires { Sized p }
-    ensures { result ≡ padded_width p }
-{
-    padded_size(p.depth as usize, p.width as usize)
-}
-
-// The padded height of a component.
-pub fn padded_height(p: Parameters) -> usize
-    requires { Sized p }
-    ensures { result ≡ padded_height p }
-{
-    padded_size(p.depth as usize, p.height as usize)
 }
 
 // The width or height of a level's bands, from the padded one.
