@@ -1,9 +1,9 @@
--- `unpack::data::read_headed` meets its contract: each kind of header goes on as the definition says, and the tests of a coded one are those
--- of the definition, in its order.
+-- `unpack::data::Reader::read_headed` meets its contract: each kind of header goes on as the definition says, and the tests of a coded one are
+-- those of the definition, in its order.
 use native.Mathlib.Omega.{arith}
 use borrow.Author.Tests.{lt-ltb, le-ltb}
 use Rattle.unpack.specs.Subband.{checked_data, headed}
-use Rattle.unpack.proofs.data.read_headed.Goals as goal
+use Rattle.unpack.proofs.data.Reader.read_headed.Goals as goal
 
 pub returns-then-index-gt-QUANTISER_MOST : goal.returns-then-index-gt-QUANTISER_MOST
 unfolding headed checked_data
@@ -17,31 +17,27 @@ overflow_add-bit c =
 pub overflow_mul-result : goal.overflow_mul-result
 overflow_mul-result c =
     let sound = rw c.in-Coded.is at c.requires.2 in
-    omega (arith, sound.0, sound.1, c.if-bytes-bit.true)
+    omega (arith, sound.0, sound.1, c.if-self-bit.true)
 
-pub returns-then-bytes-bit : goal.returns-then-bytes-bit
+pub returns-then-self-bit : goal.returns-then-self-bit
 unfolding headed checked_data
-returns-then-bytes-bit c = rw (c.in-Coded.is, le-ltb 115 c.in-Coded.index (omega arith), lt-ltb _ _ c.if-bytes-bit.true)
+returns-then-self-bit c = rw (c.in-Coded.is, le-ltb 115 c.in-Coded.index (omega arith), lt-ltb _ _ c.if-self-bit.true)
 
 pub read_data-requires : goal.read_data-requires
 read_data-requires c =
     let sound = rw c.in-Coded.is at c.requires.2 in
-    (c.requires.0, c.requires.1, c.quantiser_of-q.ensures.1, sound.0, sound.1, c.if-bytes-bit.false, c.requires.3)
+    (c.requires.0, c.requires.1, sound.0, sound.1, c.if-self-bit.false)
 
 pub returns-in-Skipped : goal.returns-in-Skipped
 unfolding headed
 returns-in-Skipped c = rw c.in-Skipped.is
 
-pub returns-else-bytes-bit : goal.returns-else-bytes-bit
+pub returns-else-self-bit : goal.returns-else-self-bit
 unfolding headed checked_data
-returns-else-bytes-bit c =
+returns-else-self-bit c =
     rw (
       c.in-Coded.is,
       le-ltb 115 c.in-Coded.index (omega arith),
-      le-ltb _ _ c.if-bytes-bit.false,
+      le-ltb _ _ c.if-self-bit.false,
     )
-    (rw c.quantiser_of-q.ensures.0 at c.read_data.ensures)
-
-pub returns-in-Refused : goal.returns-in-Refused
-unfolding headed
-returns-in-Refused c = rw c.in-Refused.is
+    (rw c.quantiser_of-q.ensures at c.read_data.ensures)
