@@ -14,11 +14,9 @@ pub fn extend(halves: &mut [i32; 4112], base: usize, half: usize)
     let all: &mut [i32] = halves;
     let first = all[base + 4];
     let last = all[base + half + 3];
-    let mut i = 0;
-    while i < 4 {
+    for i in 0..4 {
         all[base + i] = first;
         all[base + half + 4 + i] = last;
-        i += 1;
     }
 }
 
@@ -44,12 +42,10 @@ fn interleave_eights(
     requires { (eights ≤ 512) × (start + 8 * eights ≤ length plane.old) }
     ensures { plane.new ≡ with_row plane.old start (8 * eights) halves.now shift }
 {
-    let mut i = 0;
-    while i < eights {
+    for i in 0..eights {
         let mut eight = [0i32; 8];
         interleave_part(&mut eight, 0, halves, 8 * i, 8, shift);
         copy(plane, start + 8 * i, &eight, 0, 8);
-        i += 1;
     }
 }
 
@@ -65,10 +61,8 @@ fn interleave_part(
     requires { (from + count ≤ 4096) × (start + count ≤ length plane.old) }
     ensures { plane.new ≡ with_row_part plane.old start from count halves.now shift }
 {
-    let mut x = 0;
-    while x < count {
+    for x in 0..count {
         plane[start + x] = row_number(halves, from + x, shift);
-        x += 1;
     }
 }
 

@@ -1,7 +1,7 @@
 -- Laws of the job: what the checks' answer says of the parameters and the planes, and how a call ends after all slices.
 -- Assumes nothing.
 use mathlib.Core.Path.{◌≡◌, refl, sym, ◌∙◌}
-use mathlib.Core.Bool.{Bool, true, false, not, cond, ◌&&◌, and_assoc}
+use mathlib.Core.Bool.{Bool, true, false, not, cond, ◌&&◌}
 use mathlib.Core.Logic.{◌≢◌}
 use mathlib.Core.List.{List}
 use Prim.Native.Nat.{ℕ, suc, ◌+◌, ◌*◌, ◌≤◌}
@@ -29,12 +29,6 @@ use Rattle.low_delay.specs.Slices.{slice_start, slice}
 use Rattle.low_delay.specs.Job.{LowDelayResult, result, sizes_in_range, counts_in_range, fraction_in_range, matrix_in_range, slices_in_range, entries_of, planes_fit, refusal_of, accepted, predicted, finished, after_slice, slices_from, unpacked}
 use Rattle.low_delay.specs.Bounds.{SoundFraction, prediction_fits, predicted_planes}
 use Rattle.low_delay.specs.declared.parameters.LowDelay.{LowDelay}
-
--- the sizes are those of luma, and those of the chroma pair
-pub sizes-both : (p : Picture) →
-    (in_range 1 4096 p.luma_width && in_range 1 4096 p.luma_height) && (in_range 1 4096 p.chroma_width && in_range 1 4096 p.chroma_height) ≡ sizes_in_range p
-unfolding sizes_in_range
-sizes-both p = sym (and_assoc (in_range 1 4096 p.luma_width && in_range 1 4096 p.luma_height) _ _)
 
 -- a picture that passes its checks
 pub checked : (p : Picture) → sizes_in_range p ≡ true → in_range 0 4 p.depth ≡ true → counts_in_range p ≡ true → Checked p

@@ -35,6 +35,7 @@ pub fn refusal(p: LowDelay, luma: usize, first: usize, second: usize) -> u32
 }
 
 // Whether the sizes of luma and of the chroma pair are in range.
+#[tactic(auto, unfolding(crate::specs::Job::sizes_in_range))]
 fn sizes_in_range(p: Picture) -> bool
     ensures { result ≡ sizes_in_range p }
 {
@@ -49,20 +50,16 @@ fn size_in_range(width: u32, height: u32) -> bool
 }
 
 // Whether the counts of slices, the fraction and the matrix are in range.
+#[tactic(auto, unfolding(crate::specs::Job::slices_in_range))]
 fn slices_in_range(p: LowDelay) -> bool
     requires { p.picture.depth ≤ 4 }
     ensures { result ≡ slices_in_range p }
 {
-    if !counts_in_range(p.picture) {
-        return false;
-    }
-    if !fraction_in_range(p) {
-        return false;
-    }
-    matrix_in_range(p.picture)
+    counts_in_range(p.picture) && fraction_in_range(p) && matrix_in_range(p.picture)
 }
 
 // Whether the counts of slices are in range.
+#[tactic(auto, unfolding(crate::specs::Job::counts_in_range))]
 fn counts_in_range(p: Picture) -> bool
     ensures { result ≡ counts_in_range p }
 {
@@ -71,16 +68,13 @@ fn counts_in_range(p: Picture) -> bool
 }
 
 // Whether both numbers of the fraction are in range, and it is at least 1.
+#[tactic(auto, unfolding(crate::specs::Job::fraction_in_range))]
 fn fraction_in_range(p: LowDelay) -> bool
     ensures { result ≡ fraction_in_range p }
 {
-    if !in_range(1, limits::FRACTION_MOST, p.numerator) {
-        return false;
-    }
-    if !in_range(1, limits::FRACTION_MOST, p.denominator) {
-        return false;
-    }
-    p.denominator <= p.numerator
+    in_range(1, limits::FRACTION_MOST, p.numerator)
+        && in_range(1, limits::FRACTION_MOST, p.denominator)
+        && p.denominator <= p.numerator
 }
 
 // Whether every entry of the matrix that a subband uses is in range.
@@ -89,27 +83,19 @@ fn matrix_in_range(p: Picture) -> bool
     ensures { result ≡ matrix_in_range p }
 {
     let count = subband_count(p.depth as usize);
-    let matrix = p.matrix;
-    let mut k = 0;
-    while k < count {
-        if limits::MATRIX_MOST < matrix[k] {
-            return false;
-        }
-        k += 1;
-    }
-    true
+    p.matrix[..count]
+        .iter()
+        .all(|entry| *entry <= limits::MATRIX_MOST)
 }
 
 // Whether each plane has exactly the length it needs.
+#[tactic(auto, unfolding(crate::specs::Job::planes_fit))]
 fn planes_fit(p: Picture, luma: usize, first: usize, second: usize) -> bool
     requires { Checked p }
     ensures { (planes : Planes) → PlanesOfLengths luma first second planes → result ≡ planes_fit p planes }
 {
-    if luma != entries_of(p, p.luma_width, p.luma_height) {
-        return false;
-    }
     let chroma = entries_of(p, p.chroma_width, p.chroma_height);
-    first == chroma && second == chroma
+    luma == entries_of(p, p.luma_width, p.luma_height) && first == chroma && second == chroma
 }
 
 // How many entries the plane of a component of a width and height has.

@@ -63,12 +63,9 @@ fn read_bits(bytes: &[u8], at: usize, n: usize) -> usize
     ensures { (result ≡ bits_from bytes.now at n) × (result < 2 ^ n) }
 {
     let mut v = 0;
-    let mut i = 0;
-    while i < n {
+    for i in 0..n {
         let bit = at + i;
-        let byte = bytes[bit / 8] as usize;
-        v = 2 * v + (byte >> (7 - bit % 8)) % 2;
-        i += 1;
+        v = 2 * v + (usize::from(bytes[bit / 8]) >> (7 - bit % 8)) % 2;
     }
     v
 }
@@ -79,11 +76,5 @@ fn length_bits(size: usize) -> usize
     ensures { (result ≡ length_bits size) × (result ≤ 19) × (7 + result ≤ 8 * size) }
 {
     let most = 8 * size - 7;
-    let mut power = 1;
-    let mut n = 0;
-    while power < most {
-        power *= 2;
-        n += 1;
-    }
-    n
+    most.next_power_of_two().ilog2() as usize
 }

@@ -69,8 +69,7 @@ fn read_slices(
     fill_small_table(&mut small, picture.intra);
     let factors = factor_table();
     let count = slice_count(picture);
-    let mut k = 0;
-    while k < count {
+    for k in 0..count {
         let of = Numbered {
             parameters: p,
             number: k,
@@ -78,7 +77,7 @@ fn read_slices(
         match read_slice(
             luma, first, second, of, bytes, &mut run, &table, &small, &factors,
         ) {
-            Progress::At { bit: _ } => k += 1,
+            Progress::At { bit: _ } => {}
             Progress::Refused { status, bit: _ } => {
                 zero_planes(luma, first, second);
                 return Answer { status, place: k };

@@ -15,9 +15,6 @@ use Rattle.coefficients.specs.Scaling.{scale_of, small_fit, Small}
 use Rattle.coefficients.specs.declared.quantiser.Quantiser.{Quantiser}
 use Rattle.slices.specs.Bounds.{KnowsSmall}
 
-pub small-none : (intra : Bool) (table : List (List ℤ)) → KnowsSmall intra 0 table
-small-none intra table = record { each = λ index below. absurd (omega arith) }
-
 -- what a quantiser makes of small sizes is what every quantiser of the index makes of them
 pub small-more : (intra : Bool) (n : ℕ) (table : List (List ℤ)) (small : List ℤ) (q : Quantiser) → n < length table → KnowsSmall intra n table → scale_of q ≡ dequantise intra n →
     (small_fit q ≡ true → Small (scale_of q) small) → KnowsSmall intra (n + 1) (set table n small)

@@ -3,7 +3,7 @@
 use mathlib.Core.Path.{◌≡◌, refl, sym, ap, ◌∙◌}
 use mathlib.Core.List.{List}
 use Prim.Native.Nat.{ℕ, zero, suc, ◌+◌, ◌*◌, ◌/◌, ◌%◌, ◌≤◌, ◌<◌}
-use native.Mathlib.Nat.{zero-add, add-zero, zero-mul, mul-one, div-one, mul-le-mul, mul-le-mul_right, mul_assoc, suc-mul}
+use native.Mathlib.Nat.{zero-add, add-zero, zero-mul, mul-one, div-one, mul-le-mul_right, mul_assoc, suc-mul}
 use native.Mathlib.Omega.{arith}
 use lib.IntN.{ℤ, pos}
 use lib.ListN.{length, get_or}
@@ -109,22 +109,12 @@ module _ (luma first second luma' first' second' : List ℤ) (l : length luma' �
   fits-same holder a fits =
       record { narrow = fits.narrow; tall = fits.tall; close = fits.close; rows = λ y below. row-fits-same holder (a.start + y * a.stride + a.width) (fits.rows y below) }
 
--- numbers that the code computes of a row are small
-pub row_small : (y stride : ℕ) → y ≤ 4096 → stride ≤ 4096 → y * stride ≤ 4096 * 4096
-row_small y stride low narrow = mul-le-mul low narrow
-
+-- a row has few values
 pub row-few : (holder : Holder) (width : ℕ) → width ≤ 4096 → 1 * width * turns holder ≤ 8192
 row-few Luma width narrow = omega arith
 row-few Both width narrow = omega arith
 
 module _ (holder : Holder) (a : Rectangle) (luma first second : List ℤ) (fits : Fits holder a luma first second) (y : ℕ) (below : y < a.height) where
-  pub row_inside : a.start + y * a.stride ≤ length luma + length first
-  row_inside = by holder (fits.rows y below)
-    where
-      by : (h : Holder) → RowFits h (a.start + y * a.stride + a.width) luma first second → a.start + y * a.stride ≤ length luma + length first
-      by Luma row = omega (arith, row)
-      by Both row = omega (arith, row.0)
-
   -- a row is a rectangle that fits
   pub fits-row : Fits holder (row_of a y) luma first second
   fits-row =

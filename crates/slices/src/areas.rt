@@ -74,6 +74,7 @@ impl Slice {
 }
 
 // The quantiser index of subband k, where the slice has an index.
+#[tactic(auto, unfolding(crate::specs::Areas::subband_index))]
 pub fn subband_index(p: Picture, index: u32, k: usize) -> u32
     requires { k < 13 }
     ensures { result ≡ subband_index p index k }

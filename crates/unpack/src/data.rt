@@ -17,7 +17,7 @@ use coefficients::quantiser::{quantiser_of, small_values};
 use coefficients::reading::{Cursor, Quantiser};
 use coefficients::values::Decoder;
 use component::parameters::Parameters;
-use component::sizes::{padded_height, padded_width};
+use component::sizes::padded_size;
 use component::subbands::subband_at;
 use prediction::predict;
 
@@ -106,8 +106,9 @@ impl Reader<'_> {
         ensures { result ≡ codeblocks_of self.entry.p k }
     {
         let p = self.p;
-        let stride = padded_width(p);
-        let subband = subband_at(p.depth as usize, stride, padded_height(p), k);
+        let depth = p.depth as usize;
+        let stride = padded_size(depth, p.width as usize);
+        let subband = subband_at(depth, stride, padded_size(depth, p.height as usize), k);
         let level = subband.level;
         CodeblockGrid {
             stride,

@@ -37,6 +37,7 @@ pub fn read_header(bytes: &[u8], at: usize) -> Result<ReadHeader, Fault>
 }
 
 // The first bit of a byte, at a bit or after it.
+#[tactic(auto, unfolding(crate::specs::Header::boundary))]
 fn boundary(bit: usize) -> usize
     requires { bit < 2 ^ 63 }
     ensures { result ≡ boundary bit }

@@ -9,9 +9,6 @@ use Rattle.low_delay.specs.Job.{result, outcome}
 use Rattle.low_delay.proofs.JobLaws.{zeros-same, slices-read, slices-refused, slices-over}
 use Rattle.low_delay.proofs.read_slices.Goals as goal
 
-pub slice_count-count-requires : goal.slice_count-count-requires
-slice_count-count-requires c = c.requires.0
-
 pub loop-k-init : goal.loop-k-init
 loop-k-init c =
     let whole : c.slice_count-count.result ≡ c.slice_count-count.result - 0 = omega arith in
@@ -23,12 +20,6 @@ slice_bounds-read_slice-end c = sym c.loop-k.invariant.4
 pub read_slice-requires : goal.read_slice-requires
 read_slice-requires c =
     let inv = c.loop-k.invariant in record { sound = (c.requires.0, c.requires.1, omega (arith, c.loop-k-test, c.slice_count-count.ensures.0)); planes = (lengths-same _ _ _ _ _ _ _ inv.1 inv.2 inv.3 c.requires.2, inv.5); tables = (c.lookup_table-table.ensures, c.fill_small_table.ensures, c.factor_table-factors.ensures) }
-
-pub overflow_add-k : goal.overflow_add-k
-overflow_add-k c = omega (arith, c.loop-k-test)
-
-pub loop-k-smaller : goal.loop-k-smaller
-loop-k-smaller c = omega (arith, c.loop-k-test)
 
 pub loop-k-preserved : goal.loop-k-preserved
 loop-k-preserved c =
@@ -42,15 +33,6 @@ loop-k-preserved c =
       c.read_slice.ensures.run_blank _ told,
       inv.6 ∙ rw (add-one c.loop-k.k) (slices-read _ _ c.loop-k.k _ _ _ _ _ (omega (arith, c.loop-k-test)) (left-on _ _ _ _ _ c.read_slice.ensures _ told)),
     )
-
-pub shape_of-luma-in-Refused : goal.shape_of-luma-in-Refused
-shape_of-luma-in-Refused c = c.zero_planes.auto.luma ∙ c.read_slice.auto.luma ∙ c.loop-k.invariant.1
-
-pub shape_of-first-in-Refused : goal.shape_of-first-in-Refused
-shape_of-first-in-Refused c = c.zero_planes.auto.first ∙ c.read_slice.auto.first ∙ c.loop-k.invariant.2
-
-pub shape_of-second-in-Refused : goal.shape_of-second-in-Refused
-shape_of-second-in-Refused c = c.zero_planes.auto.second ∙ c.read_slice.auto.second ∙ c.loop-k.invariant.3
 
 pub returns-in-Refused : goal.returns-in-Refused
 unfolding outcome
@@ -67,15 +49,6 @@ pub finish-requires : goal.finish-requires
 finish-requires c =
     let inv = c.loop-k.invariant in
     (c.requires.0, c.requires.1, lengths-same _ _ _ _ _ _ _ inv.1 inv.2 inv.3 c.requires.2)
-
-pub shape_of-luma : goal.shape_of-luma
-shape_of-luma c = c.finish.auto.luma ∙ c.loop-k.invariant.1
-
-pub shape_of-first : goal.shape_of-first
-shape_of-first c = c.finish.auto.first ∙ c.loop-k.invariant.2
-
-pub shape_of-second : goal.shape_of-second
-shape_of-second c = c.finish.auto.second ∙ c.loop-k.invariant.3
 
 pub returns : goal.returns
 returns c =

@@ -11,6 +11,3 @@ abbrev pub invariant-loop-k : goal.invariant-loop-k
 invariant-loop-k l =
     (l.k ≤ l.count) × (length l.luma ≡ length l.initial.luma) × (length l.first ≡ length l.initial.first) × (length l.second ≡ length l.initial.second) × (length l.run ≡ 8192) × Blank l.run
     × (slices_from l.p l.bytes l.count 0 (planes_of l.initial.luma l.initial.first l.initial.second) ≡ slices_from l.p l.bytes (l.count - l.k) l.k (planes_of l.luma l.first l.second))
-
-abbrev pub decreases-loop-k : goal.decreases-loop-k
-decreases-loop-k l = l.count - l.k

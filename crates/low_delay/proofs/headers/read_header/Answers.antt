@@ -1,12 +1,8 @@
 -- `low_delay::headers::read_header` meets its contract: it reads the numbers of the definition, whose tests it makes in their order.
 use mathlib.Core.Path.{sym, ◌∙◌}
 use native.Mathlib.Omega.{arith}
-use lib.Pow.{pow_mono}
 use Rattle.low_delay.proofs.BoundsLaws.{header-long, header-index, header_read, header-sound}
 use Rattle.low_delay.proofs.headers.read_header.Goals as goal
-
-pub overflow_add-middle : goal.overflow_add-middle
-overflow_add-middle c = omega (arith, c.read_bits.ensures.1, pow_mono {i = c.length_bits-n.result} {j = 19} c.length_bits-n.ensures.1)
 
 pub returns-then-bytes-middle : goal.returns-then-bytes-middle
 returns-then-bytes-middle c =

@@ -8,9 +8,6 @@ use Rattle.low_delay.proofs.BoundsLaws.{luma-out, first_out, all_told, all_done}
 use Rattle.low_delay.proofs.planes.predict_planes.Goals as goal
 use Rattle.low_delay.proofs.planes.predict_planes.Goals.{After-predict_plane, After-predict_plane-2, After-predict_plane-3}
 
-pub predict_plane-requires : goal.predict_plane-requires
-predict_plane-requires c = (c.grid_of.ensures.1, rw c.grid_of.ensures.0 c.requires.1.luma_long)
-
 -- what each prediction says
 luma-is : (c : After-predict_plane) →
     ended c.predict_plane.result c.predict_plane.new.plane ≡ predicted_plane (luma_grid c.args.p) c.args.luma.now
@@ -28,10 +25,6 @@ pub returns-then-not-predict_plane : goal.returns-then-not-predict_plane
 returns-then-not-predict_plane c =
     record { told = luma-out _ _ _ _ _ (rw c.if-not-predict_plane.true at (luma-is (goal.at.returns-then-not-predict_plane c).After-predict_plane)); done = λ never. absurd (false≢true never) }
 
-pub predict_plane-requires-2 : goal.predict_plane-requires-2
-predict_plane-requires-2 c =
-    (c.grid_of-chroma.ensures.1, rw c.grid_of-chroma.ensures.0 c.requires.1.first_long)
-
 pub returns-then-not-predict_plane-2 : goal.returns-then-not-predict_plane-2
 returns-then-not-predict_plane-2 c =
     record {
@@ -39,10 +32,6 @@ returns-then-not-predict_plane-2 c =
           (rw c.if-not-predict_plane-2.true at (first-is (goal.at.returns-then-not-predict_plane-2 c).After-predict_plane-2));
       done = λ never. absurd (false≢true never);
     }
-
-pub predict_plane-requires-3 : goal.predict_plane-requires-3
-predict_plane-requires-3 c =
-    (c.grid_of-chroma.ensures.1, rw c.grid_of-chroma.ensures.0 c.requires.1.second_long)
 
 pub returns : goal.returns
 returns c =

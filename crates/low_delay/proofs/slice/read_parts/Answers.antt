@@ -28,9 +28,6 @@ returns-in_default-last c =
     λ at.
     second-stopped _ _ _ _ _ _ _ _ _ _ _ _ (left-on _ _ _ _ _ (rw c.part_of-part.ensures at c.read_part-progress.ensures) _ c.in-At.is) _ _ c.read_part-last.result _ _ _ _ c.in_default-last.is (rw c.part_of-rest.ensures at c.read_part-last.ensures)
 
-pub overflow_add-result : goal.overflow_add-result
-overflow_add-result c = omega (arith, c.requires.sound.2)
-
 pub returns : goal.returns
 returns c =
     λ at.

@@ -2,7 +2,6 @@
 use mathlib.Core.Path.{refl}
 use Prim.Native.Nat.{◌*◌, ◌≤◌}
 use native.Mathlib.Nat.{mul-le-mul}
-use native.Mathlib.Omega.{arith}
 use Rattle.slices.specs.Areas.{slice_count}
 use Rattle.low_delay.proofs.starts.slice_count.Goals as goal
 use Rattle.low_delay.proofs.starts.slice_count.Goals.{Start}
@@ -10,9 +9,6 @@ use Rattle.low_delay.proofs.starts.slice_count.Goals.{Start}
 -- the product is small
 small : (c : Start) → c.args.p.slices_across * c.args.p.slices_down ≤ 65025
 small c = mul-le-mul c.requires.across_most c.requires.down_most
-
-pub overflow_mul-result : goal.overflow_mul-result
-overflow_mul-result c = omega (arith, small (goal.at.overflow_mul-result c).Start)
 
 pub returns : goal.returns
 unfolding slice_count

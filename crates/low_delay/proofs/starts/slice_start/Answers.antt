@@ -12,9 +12,6 @@ use Rattle.low_delay.proofs.starts.slice_start.Goals.{Start}
 small : (c : Start) → c.args.k * c.args.p.numerator ≤ 65025 * 65535
 small c = mul-le-mul c.requires.1 c.requires.0.numerator_most
 
-pub overflow_mul-result : goal.overflow_mul-result
-overflow_mul-result c = omega (arith, small (goal.at.overflow_mul-result c).Start)
-
 pub returns : goal.returns
 unfolding slice_start
 returns c =

@@ -6,7 +6,7 @@ use Rattle.coefficients.specs.Scaling.{scale_of}
 use Rattle.slices.specs.Planes.{planes_of}
 use Rattle.slices.specs.Parts.{area_values}
 use Rattle.slices.specs.Reads.{data_of, row_of, Left}
-use Rattle.slices.proofs.StoresLaws.{row-few, row_inside, fits-row, fits-same}
+use Rattle.slices.proofs.StoresLaws.{row-few, fits-row, fits-same}
 use Rattle.slices.proofs.ReadsLaws.{walked_none, walked_more, walked_stop, walked_all, area-stays, area-rows, span-again, left-again}
 use Rattle.slices.proofs.parts.read_area.Goals as goal
 use Rattle.slices.proofs.parts.read_area.Goals.{After-read_rows-progress}
@@ -25,15 +25,9 @@ pub read_rows-requires : goal.read_rows-requires
 read_rows-requires c =
     record { fits = (c.requires.0, rw c.values_of.ensures at c.if-values_of-le-RUN.true); reads = (c.requires.1, c.requires.2, c.requires.3) }
 
-pub returns-then-values_of-le-RUN : goal.returns-then-values_of-le-RUN
-returns-then-values_of-le-RUN c = c.read_rows.ensures
-
 pub loop-y-init : goal.loop-y-init
 loop-y-init c =
     (omega arith, refl, refl, refl, refl, c.requires.2, refl, refl, c.requires.1.before_end, walked_none _ (λ k. area-stays _ _ _ _) c.args.piece.span.end _ _ _ refl)
-
-pub row_of-requires : goal.row_of-requires
-row_of-requires c = omega (arith, row_inside _ _ _ _ _ c.requires.0 _ c.loop-y-test.true)
 
 pub read_rows-progress-requires : goal.read_rows-progress-requires
 read_rows-progress-requires c =
@@ -49,18 +43,6 @@ row-left : (c : After-read_rows-progress) →
 row-left c =
     let inv = c.loop-y.invariant in
     left-again _ _ _ inv.6 inv.7 _ _ _ _ _ _ _ (rw c.row_of.ensures at c.read_rows-progress.ensures)
-
-pub shape_of-luma-in_default : goal.shape_of-luma-in_default
-shape_of-luma-in_default c = c.read_rows-progress.auto.luma ∙ c.loop-y.invariant.1
-
-pub shape_of-first-in_default : goal.shape_of-first-in_default
-shape_of-first-in_default c = c.read_rows-progress.auto.first ∙ c.loop-y.invariant.2
-
-pub shape_of-second-in_default : goal.shape_of-second-in_default
-shape_of-second-in_default c = c.read_rows-progress.auto.second ∙ c.loop-y.invariant.3
-
-pub shape_of-run-in_default : goal.shape_of-run-in_default
-shape_of-run-in_default c = c.read_rows-progress.auto.run ∙ c.loop-y.invariant.4
 
 pub returns-in_default : goal.returns-in_default
 returns-in_default c =
@@ -84,18 +66,6 @@ loop-y-preserved c =
       left.before_end _ told,
       walked_more _ (λ k. area-stays _ _ _ _) _ _ c.loop-y.y _ _ _ _ c.read_rows-progress.result _ inv.9 told left,
     )
-
-pub shape_of-luma : goal.shape_of-luma
-shape_of-luma c = c.loop-y.invariant.1
-
-pub shape_of-first : goal.shape_of-first
-shape_of-first c = c.loop-y.invariant.2
-
-pub shape_of-second : goal.shape_of-second
-shape_of-second c = c.loop-y.invariant.3
-
-pub shape_of-run : goal.shape_of-run
-shape_of-run c = c.loop-y.invariant.4
 
 pub returns : goal.returns
 returns c =

@@ -13,14 +13,8 @@ use Rattle.slices.proofs.ReadsLaws.{walked_none, walked_more, walked_stop, walke
 use Rattle.slices.proofs.parts.read_part.Goals as goal
 use Rattle.slices.proofs.parts.read_part.Goals.{After-area_at, After-read_area-progress, After-subband_index-index, In-loop-k}
 
-pub grid_for-requires : goal.grid_for-requires
-grid_for-requires c = c.requires.sound.0
-
 pub new-slice-requires : goal.new-slice-requires
 new-slice-requires c = (c.grid_for.ensures.1, rw c.grid_for.ensures.0 (grid-counted c.args.part.picture c.args.part.holder _ c.requires.sound.1))
-
-pub subband_count-count-requires : goal.subband_count-count-requires
-subband_count-count-requires c = c.requires.sound.0.shallow
 
 pub loop-k-init : goal.loop-k-init
 loop-k-init c =
@@ -29,9 +23,6 @@ loop-k-init c =
 -- a subband that is left
 in-turn : (c : In-loop-k) → c.loop-k.k < subband_count c.args.part.picture.depth
 in-turn c = omega (arith, c.loop-k-test, c.subband_count-count.ensures)
-
-pub subband_index-index-requires : goal.subband_index-index-requires
-subband_index-index-requires c = omega (arith, in-turn (goal.at.subband_index-index-requires c).In-loop-k, c.requires.sound.0.shallow)
 
 pub area_at-requires : goal.area_at-requires
 area_at-requires c =
@@ -51,12 +42,6 @@ area-is c =
 
 pub quantiser_by-requires : goal.quantiser_by-requires
 quantiser_by-requires c = (index-most (goal.at.quantiser_by-requires c).After-subband_index-index, c.requires.tables.2)
-
-pub overflow_cast-index : goal.overflow_cast-index
-overflow_cast-index c = omega (arith, index-most (goal.at.overflow_cast-index c).After-subband_index-index)
-
-pub offset_bounds-small-index : goal.offset_bounds-small-index
-offset_bounds-small-index c = omega (arith, index-most (goal.at.offset_bounds-small-index c).After-subband_index-index)
 
 pub read_area-progress-requires : goal.read_area-progress-requires
 read_area-progress-requires c =
@@ -83,18 +68,6 @@ band-left c =
     let area = rw (slice.0, slice.1, c.grid_for.ensures.0) at c.area_at.ensures in
     left-again _ _ _ inv.6 inv.7 _ _ _ _ _ _ _ (rw (area, c.quantiser_by.ensures.0, c.subband_index-index.ensures) at c.read_area-progress.ensures)
 
-pub shape_of-luma-in_default : goal.shape_of-luma-in_default
-shape_of-luma-in_default c = c.read_area-progress.auto.luma ∙ c.loop-k.invariant.1
-
-pub shape_of-first-in_default : goal.shape_of-first-in_default
-shape_of-first-in_default c = c.read_area-progress.auto.first ∙ c.loop-k.invariant.2
-
-pub shape_of-second-in_default : goal.shape_of-second-in_default
-shape_of-second-in_default c = c.read_area-progress.auto.second ∙ c.loop-k.invariant.3
-
-pub shape_of-run-in_default : goal.shape_of-run-in_default
-shape_of-run-in_default c = c.read_area-progress.auto.run ∙ c.loop-k.invariant.4
-
 pub returns-in_default : goal.returns-in_default
 unfolding part_values
 returns-in_default c =
@@ -117,18 +90,6 @@ loop-k-preserved c =
       last.before_end _ told,
       walked_more _ (λ k. area-stays _ _ _ _) _ _ c.loop-k.k _ _ _ _ c.read_area-progress.result _ inv.9 told last,
     )
-
-pub shape_of-luma : goal.shape_of-luma
-shape_of-luma c = c.loop-k.invariant.1
-
-pub shape_of-first : goal.shape_of-first
-shape_of-first c = c.loop-k.invariant.2
-
-pub shape_of-second : goal.shape_of-second
-shape_of-second c = c.loop-k.invariant.3
-
-pub shape_of-run : goal.shape_of-run
-shape_of-run c = c.loop-k.invariant.4
 
 pub returns : goal.returns
 unfolding part_values

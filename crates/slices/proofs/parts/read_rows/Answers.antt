@@ -28,10 +28,6 @@ pub store_rows-requires : goal.store_rows-requires
 store_rows-requires c =
     room_of _ _ _ _ _ _ c.requires.fits.0 c.requires.fits.1 (rw c.read_run-progress.auto.run c.requires.reads.1.room)
 
-pub zero_part-requires : goal.zero_part-requires
-zero_part-requires c =
-    omega (arith, c.read_run-progress.auto.run, c.values_of-n.ensures, c.requires.fits.1, c.requires.reads.1.room)
-
 pub returns : goal.returns
 returns c =
     left-stored _ c.args.piece.span _ c.args.piece.holder c.args.piece.area c.values_of-n.result _ _ c.values_of-n.ensures (rw c.values_of-n.ensures c.requires.fits.1) c.requires.reads.1

@@ -23,12 +23,6 @@ loop-x-preserved c =
       rw (back w32 (get_or args.source.now (args.from + 2 * c.loop-x.x + 1) (pos 0)) (search rules), inv.4) (fill_more _ _ _ _ _ refl),
     )
 
-pub shape_of-first : goal.shape_of-first
-shape_of-first c = c.loop-x.invariant.1
-
-pub shape_of-second : goal.shape_of-second
-shape_of-second c = c.loop-x.invariant.2
-
 pub returns : goal.returns
 returns c =
     let inv = c.loop-x.invariant in

@@ -1,14 +1,8 @@
 use mathlib.Core.Path.{◌≡◌, ◌∙◌}
 use native.Mathlib.Omega.{arith}
 use lib.ListN.{length-set}
-use Rattle.slices.proofs.BoundsLaws.{small-none, small-more}
+use Rattle.slices.proofs.BoundsLaws.{small-more}
 use Rattle.slices.proofs.tables.fill_small_table.Goals as goal
-
-pub loop-index-init : goal.loop-index-init
-loop-index-init c = (omega arith, c.requires, small-none _ _)
-
-pub small_values-requires : goal.small_values-requires
-small_values-requires c = c.quantiser_of.ensures.1
 
 pub loop-index-preserved : goal.loop-index-preserved
 loop-index-preserved c =

@@ -48,8 +48,5 @@ predict_band-requires c =
     subst (λ (b : CodeblockGrid). Placed b c.read_headed-bit.new.plane) (sym c.codeblocks_of-blocks.ensures)
     (codeblocks-placed c.args.self.p c.args.self.checked c.args.k c.requires.0 c.read_headed-bit.new.plane (c.read_headed-bit.auto.plane ∙ c.requires.1))
 
-pub shape_of-plane : goal.shape_of-plane
-shape_of-plane c = c.predict_band.auto.plane ∙ c.read_headed-bit.auto.plane
-
 pub returns : goal.returns
 returns c = ?

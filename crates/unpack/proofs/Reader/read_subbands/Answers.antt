@@ -57,9 +57,6 @@ loop-k-preserved c =
       rw told at (whole (goal.at.loop-k-preserved c).After-read_subband),
     )
 
-pub shape_of-plane-in-Err : goal.shape_of-plane-in-Err
-shape_of-plane-in-Err c = c.zero.auto.plane ∙ c.read_subband.auto.plane ∙ c.loop-k.invariant.1
-
 pub returns-in-Err : goal.returns-in-Err
 unfolding outcome ended_with
 returns-in-Err c =

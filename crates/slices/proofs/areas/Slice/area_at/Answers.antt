@@ -17,17 +17,11 @@ stands c = standing-room _ c.requires.0 c.requires.1
 pub part_start_by-left-requires : goal.part_start_by-left-requires
 part_start_by-left-requires c = ((band (goal.at.part_start_by-left-requires c).After-subband_at-b).0, (stands (goal.at.part_start_by-left-requires c).Start).across-small, omega (arith, (stands (goal.at.part_start_by-left-requires c).Start).column-most))
 
-pub overflow_add-self : goal.overflow_add-self
-overflow_add-self c = omega (arith, (stands (goal.at.overflow_add-self c).Start).column-most)
-
 pub part_start_by-right-requires : goal.part_start_by-right-requires
 part_start_by-right-requires c = ((band (goal.at.part_start_by-right-requires c).After-subband_at-b).0, (stands (goal.at.part_start_by-right-requires c).Start).across-small, omega (arith, (stands (goal.at.part_start_by-right-requires c).Start).column-most))
 
 pub part_start_by-top-requires : goal.part_start_by-top-requires
 part_start_by-top-requires c = ((band (goal.at.part_start_by-top-requires c).After-subband_at-b).1, (stands (goal.at.part_start_by-top-requires c).Start).down-small, omega (arith, (stands (goal.at.part_start_by-top-requires c).Start).row-most))
-
-pub overflow_add-self-2 : goal.overflow_add-self-2
-overflow_add-self-2 c = omega (arith, (stands (goal.at.overflow_add-self-2 c).Start).row-most)
 
 pub part_start_by-bottom-requires : goal.part_start_by-bottom-requires
 part_start_by-bottom-requires c = ((band (goal.at.part_start_by-bottom-requires c).After-subband_at-b).1, (stands (goal.at.part_start_by-bottom-requires c).Start).down-small, omega (arith, (stands (goal.at.part_start_by-bottom-requires c).Start).row-most))

@@ -2,19 +2,18 @@
 use mathlib.Core.Path.{◌≡◌, ap}
 use Prim.Native.Nat.{◌+◌, ◌/◌, ◌<◌}
 use native.Mathlib.Omega.{arith}
-use lib.ListN.{get_or}
 use Rattle.component.specs.Subbands.{subband_at, subband_level}
 use Rattle.component.specs.declared.subbands.Subband.{Subband}
-use Rattle.component.proofs.ChecksLaws.{Counts, counts-at, depth_most}
+use Rattle.component.proofs.ChecksLaws.{width_most, height_most, depth_most}
 use Rattle.unpack.specs.Subband.{codeblocks_of}
 use Rattle.unpack.proofs.data.Reader.codeblocks_of.Goals as goal
 use Rattle.unpack.proofs.data.Reader.codeblocks_of.Goals.{After-subband_at-subband}
 
-pub padded_width-stride-requires : goal.padded_width-stride-requires
-padded_width-stride-requires c = (c.args.self.checked.sizes, c.args.self.checked.depth)
+pub padded_size-stride-requires : goal.padded_size-stride-requires
+padded_size-stride-requires c = (depth_most c.args.self.p c.args.self.checked.depth, width_most c.args.self.p c.args.self.checked.sizes)
 
-pub padded_height-requires : goal.padded_height-requires
-padded_height-requires c = (c.args.self.checked.sizes, c.args.self.checked.depth)
+pub padded_size-requires : goal.padded_size-requires
+padded_size-requires c = (depth_most c.args.self.p c.args.self.checked.depth, height_most c.args.self.p c.args.self.checked.sizes)
 
 pub subband_at-subband-requires : goal.subband_at-subband-requires
 subband_at-subband-requires c = (depth_most c.args.self.p c.args.self.checked.depth, c.requires)
@@ -26,21 +25,11 @@ level-small c =
     let is : c.subband_at-subband.result.level ≡ (c.args.k + 2) / 3 = ap (λ (s : Subband). s.level) c.subband_at-subband.ensures in
     omega (arith, is, c.requires, depth_most c.args.self.p c.args.self.checked.depth)
 
--- and its codeblock counts are small
-counts : (c : After-subband_at-subband) → Counts (get_or c.args.self.p.codeblocks_across c.subband_at-subband.result.level 0) (get_or c.args.self.p.codeblocks_down c.subband_at-subband.result.level 0)
-unfolding subband_at subband_level
-counts c =
-    let is : c.subband_at-subband.result.level ≡ (c.args.k + 2) / 3 = ap (λ (s : Subband). s.level) c.subband_at-subband.ensures in
-    counts-at c.args.self.p c.args.self.checked.codeblocks c.subband_at-subband.result.level (omega (arith, is, c.requires))
-
 pub offset_bounds-p-level : goal.offset_bounds-p-level
 offset_bounds-p-level c = omega (arith, level-small (goal.at.offset_bounds-p-level c).After-subband_at-subband)
 
 pub bounds-p-level : goal.bounds-p-level
 bounds-p-level c = level-small (goal.at.bounds-p-level c).After-subband_at-subband
-
-pub overflow_cast-result : goal.overflow_cast-result
-overflow_cast-result c = omega (arith, (counts (goal.at.overflow_cast-result c).After-subband_at-subband).across_most)
 
 pub offset_bounds-p-level-2 : goal.offset_bounds-p-level-2
 offset_bounds-p-level-2 c = omega (arith, level-small (goal.at.offset_bounds-p-level-2 c).After-subband_at-subband)
@@ -48,9 +37,6 @@ offset_bounds-p-level-2 c = omega (arith, level-small (goal.at.offset_bounds-p-l
 pub bounds-p-level-2 : goal.bounds-p-level-2
 bounds-p-level-2 c = level-small (goal.at.bounds-p-level-2 c).After-subband_at-subband
 
-pub overflow_cast-result-2 : goal.overflow_cast-result-2
-overflow_cast-result-2 c = omega (arith, (counts (goal.at.overflow_cast-result-2 c).After-subband_at-subband).down_most)
-
 pub returns : goal.returns
 unfolding codeblocks_of
-returns c = rw (c.subband_at-subband.ensures, c.padded_height.ensures, c.padded_width-stride.ensures)
+returns c = rw (c.subband_at-subband.ensures, c.padded_size.ensures, c.padded_size-stride.ensures)
