@@ -1,7 +1,6 @@
 // Document 01, "One subband": what a header announces, read or refused, and the prediction of a band.
 ghost use Rattle.std.specs.Prelude.{◌≡◌, Ok, ◌+◌, ◌/◌, ◌≤◌, ◌<◌, ◌^◌, length};
 ghost use Rattle.component.specs.Subbands.{subband_count};
-ghost use Rattle.lookups.specs.Lookups.{KnowsCodes};
 ghost use Rattle.coefficients.specs.Scaling.{scale_of};
 ghost use Rattle.coefficients.specs.Values.{after};
 ghost use Rattle.codeblocks.specs.Blocks.{Placed};
@@ -19,6 +18,7 @@ use coefficients::values::Decoder;
 use component::parameters::Parameters;
 use component::sizes::padded_size;
 use component::subbands::subband_at;
+use lookups::CodeTable;
 use prediction::predict;
 
 // What the subbands of a component are read by: its parameters, which passed the checks, its bytes, and the table of codes.
@@ -26,9 +26,8 @@ use prediction::predict;
 pub(crate) struct Reader<'a> {
     pub(crate) p: Parameters,
     pub(crate) bytes: &'a [u8],
-    pub(crate) table: &'a [u16; 256],
+    pub(crate) table: &'a CodeTable,
     pub(crate) ghost checked: { Checked p },
-    pub(crate) ghost knows: { KnowsCodes table.now },
 }
 
 impl Reader<'_> {

@@ -21,7 +21,7 @@ use base::status::Fault;
 use component::checks::check;
 use component::parameters::{Job, Lengths, Parameters, Refused};
 use component::subbands::subband_count;
-use lookups::lookup_table;
+use lookups::CodeTable;
 
 // Reads the coefficients of a component from its bytes, and answers the number of bytes used. Refusals 1, 2, 4 and 5 leave the plane as it was;
 // 6 to 9 leave zeros, with the subband as their place.
@@ -35,7 +35,7 @@ pub fn unpack(p: Parameters, bytes: &[u8], coefficients: &mut [i32]) -> Result<u
     };
     check(Job::Unpack, p, lengths)?;
     zero(coefficients);
-    let table = lookup_table();
+    let table = CodeTable::new();
     let reader = Reader {
         p,
         bytes,

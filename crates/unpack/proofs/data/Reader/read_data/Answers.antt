@@ -30,11 +30,11 @@ invariant_of-decoder c = record { known = record { knows = c.args.self.knows; sm
 -- the run that the callee left, as the definition has it
 left : (c : After-read_codeblocks-reached) →
     after c.read_codeblocks-reached.result.progress c.read_codeblocks-reached.new.plane ≡
-    codeblocks (take c.args.size (drop (c.args.bit / 8) c.args.bytes.now)) (8 * c.args.size) c.args.bit (scale_of c.args.q) c.args.blocks (goes_on 0 c.args.plane.now)
+    codeblocks (take c.args.size (drop (c.args.bit / 8) c.args.self.bytes.now)) (8 * c.args.size) c.args.bit (scale_of c.args.q) c.args.blocks (goes_on 0 c.args.plane.now)
 left c =
     let size = c.args.size in
     let at = c.args.bit / 8 in
-    let read : ℕ → Run = λ n. codeblocks (take n (drop at c.args.bytes.now)) (8 * size) c.args.bit (scale_of c.args.q) c.args.blocks (goes_on 0 c.args.plane.now) in
+    let read : ℕ → Run = λ n. codeblocks (take n (drop at c.args.self.bytes.now)) (8 * size) c.args.bit (scale_of c.args.q) c.args.blocks (goes_on 0 c.args.plane.now) in
     let whole : at + size - at ≡ size = omega arith in
     blocks-whole _ _ _ _ _ _ _ refl c.read_codeblocks-reached.ensures ∙ ap read whole
 

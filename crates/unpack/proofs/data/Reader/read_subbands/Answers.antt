@@ -8,8 +8,8 @@ use Rattle.unpack.specs.Job.{outcome, ended_with, subbands_from}
 use Rattle.unpack.proofs.JobLaws.{subbands-end, subbands-read}
 use Rattle.unpack.proofs.Within.{subband-bits-most}
 use Rattle.unpack.proofs.Frame.{clear_next}
-use Rattle.unpack.proofs.Reader.read_subbands.Goals as goal
-use Rattle.unpack.proofs.Reader.read_subbands.Goals.{After-read_subband, In-loop-k}
+use Rattle.unpack.proofs.data.Reader.read_subbands.Goals as goal
+use Rattle.unpack.proofs.data.Reader.read_subbands.Goals.{After-read_subband, In-loop-k}
 
 pub subband_count-count-requires : goal.subband_count-count-requires
 subband_count-count-requires c =
