@@ -5,8 +5,8 @@ ghost use Rattle.base.specs.Sign.{with_sign};
 ghost use Rattle.exp_golomb.specs.Codes.{Number, result_of};
 ghost use Rattle.lookups.specs.Windows.{is_window};
 ghost use Rattle.coefficients.specs.Reading.{store};
-ghost use Rattle.coefficients.specs.Scaling.{scale_of, small_fit};
-ghost use Rattle.coefficients.specs.Values.{after, index_of, Ready, Decoding};
+ghost use Rattle.coefficients.specs.Scaling.{scale_of, small_fit, Small};
+ghost use Rattle.coefficients.specs.Values.{after, index_of, Ready};
 ghost use Rattle.coefficients.specs.Portions.{Sound, not_read, Reads, AllRead};
 ghost use Rattle.coefficients.specs.Batches.{ReadsWithin};
 
@@ -15,7 +15,7 @@ use crate::reading::{Cursor, Portion, Quantiser};
 use base::signed;
 use base::status::{Fault, Refusal};
 use exp_golomb::codes::{ReadNumber, read_signed};
-use lookups::{first_bits, first_value, is_window, lookup_at, starts_with_ones, window};
+use lookups::{CodeTable, is_window, starts_with_ones, window};
 
 // Where values go: value i to entry start + i + floor(i · reciprocal / 2^24) · gap, for i below count.
 #[derive(Clone, Copy)]
@@ -26,16 +26,16 @@ pub struct Layout {
     pub gap: usize,
 }
 
-// What values are decoded by: a quantiser, a table of codes, and the small values.
+// What values are decoded by: a quantiser, a table of codes, and the small values, which are known where all of them fit.
 #[derive(Clone, Copy)]
 pub struct Decoder<'a> {
     pub q: Quantiser,
-    pub table: &'a [u16; 256],
+    pub table: &'a CodeTable,
     pub small: &'a [i32; 32],
-    pub ghost known: { Decoding q table.now small.now },
+    pub ghost small_known: { small_fit q ≡ true → Small (scale_of q) small.now },
 }
 
-// How many values were read, and how many bits they took.
+// How many values were read, maybe none, and how many bits they took.
 #[derive(Clone, Copy)]
 pub struct Batch {
     pub count: usize,
@@ -98,10 +98,8 @@ fn read_some(
     ensures read { Reads bytes.now cursor (scale_of decoder.entry.q) (index_of layout) i plane.old result plane.new }
     ensures some { (i + result.count ≤ layout.count) × (result.short ≡ false → 1 ≤ result.count) }
 {
-    if small_fit(decoder.q) {
-        if is_window(bytes, cursor.end, cursor.bit) {
-            return read_window(plane, layout, i, bytes, cursor, decoder);
-        }
+    if small_fit(decoder.q) && is_window(bytes, cursor.end, cursor.bit) {
+        return read_window(plane, layout, i, bytes, cursor, decoder);
     }
     read_value(plane, layout, i, bytes, cursor, decoder.q)
 }
@@ -168,7 +166,7 @@ fn read_batch(
 }
 
 // Reads values by the bits of a window where 63 or more are left: 32 at once where they are zeros; others by at most seven lookups, none of which
-// can pass the layout's end, since each has nine values at most.
+// can pass the layout's end, since each has nine values at most: so no turn asks for the end, which is why these are not `read_lookups`.
 fn read_many(plane: &mut [i32], layout: Layout, from: usize, window: u64, decoder: Decoder) -> Batch
     requires { (from + 63 ≤ layout.count) × Ready layout from plane.old }
     ensures { ReadsWithin window decoder.entry.small.now layout from plane.old result plane.new }
@@ -183,7 +181,7 @@ fn read_many(plane: &mut [i32], layout: Layout, from: usize, window: u64, decode
     let mut i = from;
     let mut bits = 0;
     for _ in 0..7usize {
-        let next = lookup_at(decoder.table, w);
+        let next = decoder.table.look_up(w);
         if next.bits == 0 {
             return Batch {
                 count: i - from,
@@ -216,8 +214,8 @@ fn read_codes(
     let mut w = window;
     let mut bits = 0;
     for i in from..layout.count {
-        let lookup = lookup_at(decoder.table, w);
-        let taken = first_bits(lookup);
+        let lookup = decoder.table.look_up(w);
+        let taken = lookup.first_bits();
         if taken == 0 {
             return Batch {
                 count: i - from,
@@ -225,7 +223,7 @@ fn read_codes(
             };
         }
         let index = index_at(layout, i);
-        plane[index] = decoder.small[first_value(lookup)];
+        plane[index] = decoder.small[lookup.first_value()];
         w <<= taken;
         bits += taken;
     }
@@ -250,7 +248,7 @@ fn read_lookups(
     let mut i = from;
     let mut bits = 0;
     for _ in 0..7usize {
-        let lookup = lookup_at(decoder.table, w);
+        let lookup = decoder.table.look_up(w);
         let to = i + lookup.zeros;
         if layout.count <= to {
             return Batch {

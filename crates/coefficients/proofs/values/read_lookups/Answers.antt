@@ -12,31 +12,15 @@ use Rattle.coefficients.proofs.values.read_lookups.Goals.{After-index_at-index, 
 pub loop-init : goal.loop-init
 loop-init c = (omega arith, omega arith, c.requires.counted, taken_none _ _ _ _ _ c.requires)
 
-pub overflow_add-to : goal.overflow_add-to
-overflow_add-to c = omega (arith, c.lookup_at-lookup.ensures.zeros_most, c.loop.invariant.2, c.requires.few)
-
-pub overflow_sub-result : goal.overflow_sub-result
-overflow_sub-result c = omega (arith, c.requires.counted)
-
-pub overflow_sub-result-then-layout-to : goal.overflow_sub-result-then-layout-to
-overflow_sub-result-then-layout-to c = omega (arith, c.loop.invariant.2)
-
-pub overflow_add-result : goal.overflow_add-result
-overflow_add-result c =
-    omega (arith, c.loop.invariant.0, c.loop.invariant.1, c.loop.invariant.2, c.requires.few)
-
 pub shape_of-plane-then-layout-to : goal.shape_of-plane-then-layout-to
 shape_of-plane-then-layout-to c = c.loop.invariant.3.same
 
 pub returns-then-layout-to : goal.returns-then-layout-to
 returns-then-layout-to c = (
   omega (arith, c.requires.counted),
-  taken-zeros _ _ _ _ _ c.requires _ _ _ _ c.lookup_at-lookup.result (omega (arith, c.loop.invariant.1, c.loop-test)) c.loop.invariant.3 c.lookup_at-lookup.ensures
+  taken-zeros _ _ _ _ _ c.requires _ _ _ _ c.look_up-lookup.result (omega (arith, c.loop.invariant.1, c.loop-test)) c.loop.invariant.3 c.look_up-lookup.ensures
       (c.args.layout.count - c.loop.i) _ (omega (arith, c.if-layout-to.true)) (omega (arith, c.loop.invariant.2)) (omega (arith, c.loop.invariant.2)),
 )
-
-pub overflow_sub-result-then-lookup-eq0 : goal.overflow_sub-result-then-lookup-eq0
-overflow_sub-result-then-lookup-eq0 c = omega (arith, c.loop.invariant.3.started)
 
 pub shape_of-plane-then-lookup-eq0 : goal.shape_of-plane-then-lookup-eq0
 shape_of-plane-then-lookup-eq0 c = c.loop.invariant.3.same
@@ -52,50 +36,24 @@ returns-then-lookup-eq0 c =
 pub index_at-index-requires : goal.index_at-index-requires
 index_at-index-requires c =
     let ready = c.requires in
-    let below : c.loop.i + c.lookup_at-lookup.result.zeros < c.args.layout.count = omega (arith, c.if-layout-to.false) in
+    let below : c.loop.i + c.look_up-lookup.result.zeros < c.args.layout.count = omega (arith, c.if-layout-to.false) in
     (omega (arith, ready.few), ready.low, omega (arith, ready.inside _ below))
 
 -- the entry that is stored lies in the plane
 inside : (c : After-index_at-index) → c.index_at-index.result < length c.loop.plane
 inside c =
-    let below : c.loop.i + c.lookup_at-lookup.result.zeros < c.args.layout.count = omega (arith, c.if-layout-to.false) in
+    let below : c.loop.i + c.look_up-lookup.result.zeros < c.args.layout.count = omega (arith, c.if-layout-to.false) in
     rw (c.index_at-index.ensures, c.loop.invariant.3.same) (c.requires.inside _ below)
-
-pub offset_bounds-decoder-lookup : goal.offset_bounds-decoder-lookup
-offset_bounds-decoder-lookup c = omega (arith, c.lookup_at-lookup.ensures.value_most)
-
-pub bounds-decoder-lookup : goal.bounds-decoder-lookup
-bounds-decoder-lookup c = omega (arith, c.lookup_at-lookup.ensures.value_most)
-
-pub offset_bounds-plane-index : goal.offset_bounds-plane-index
-offset_bounds-plane-index c = omega (arith, inside (goal.at.offset_bounds-plane-index c).After-index_at-index)
-
-pub bounds-plane-index : goal.bounds-plane-index
-bounds-plane-index c = omega (arith, inside (goal.at.bounds-plane-index c).After-index_at-index)
-
-pub overflow_shl-w : goal.overflow_shl-w
-overflow_shl-w c = omega (arith, c.lookup_at-lookup.ensures.bits_most)
-
-pub overflow_add-i : goal.overflow_add-i
-overflow_add-i c =
-    omega (arith, c.loop.invariant.2, c.requires.few, lookup-count _ _ c.lookup_at-lookup.ensures, c.lookup_at-lookup.ensures.zeros_most)
-
-pub overflow_add-bits : goal.overflow_add-bits
-overflow_add-bits c =
-    omega (arith, c.loop.invariant.0, c.loop.invariant.1, c.lookup_at-lookup.ensures.bits_most)
 
 pub loop-preserved : goal.loop-preserved
 loop-preserved c =
-    let fits : c.loop.i + c.lookup_at-lookup.result.zeros < c.args.layout.count = omega (arith, c.if-layout-to.false) in (
+    let fits : c.loop.i + c.look_up-lookup.result.zeros < c.args.layout.count = omega (arith, c.if-layout-to.false) in (
       omega (arith, c.loop-test),
-      omega (arith, c.loop.invariant.1, c.lookup_at-lookup.ensures.bits_most),
-      omega (arith, fits, lookup-count _ _ c.lookup_at-lookup.ensures),
-      rw (back w32 (get_or c.args.decoder.small.now c.lookup_at-lookup.result.value (pos 0)) c.plane-1.given, c.index_at-index.ensures)
-          (taken-lookup _ _ _ _ _ c.requires _ _ _ _ _ (omega (arith, c.loop.invariant.1, c.loop-test)) c.loop.invariant.3 c.lookup_at-lookup.ensures fits),
+      omega (arith, c.loop.invariant.1, c.look_up-lookup.ensures.bits_most),
+      omega (arith, fits, lookup-count _ _ c.look_up-lookup.ensures),
+      rw (back w32 (get_or c.args.decoder.small.now c.look_up-lookup.result.value (pos 0)) c.plane-1.given, c.index_at-index.ensures)
+          (taken-lookup _ _ _ _ _ c.requires _ _ _ _ _ (omega (arith, c.loop.invariant.1, c.loop-test)) c.loop.invariant.3 c.look_up-lookup.ensures fits),
     )
-
-pub overflow_sub-result-2 : goal.overflow_sub-result-2
-overflow_sub-result-2 c = omega (arith, c.loop.invariant.3.started)
 
 pub shape_of-plane : goal.shape_of-plane
 shape_of-plane c = c.loop.invariant.3.same
