@@ -61,20 +61,20 @@ abbrev pub status : Parameters → List ℤ → ℕ
 status p plane = refusal_of Unpack p (record { coefficients = length plane; work = 0; samples = 0 })
 
 -- no refusal has the number 0
-pub refusal-told : (refusal : Refusal) → number_of refusal ≢ 0
-refusal-told Size e = omega arith
-refusal-told Depth e = omega arith
-refusal-told Wavelet e = omega arith
-refusal-told Codeblocks e = omega arith
-refusal-told Planes e = omega arith
-refusal-told BytesEndEarly e = omega arith
-refusal-told CodeTooLong e = omega arith
-refusal-told Quantiser e = omega arith
-refusal-told ValueOutOfRange e = omega arith
-refusal-told SynthesisOutOfRange e = omega arith
-refusal-told BytesLeftOver e = omega arith
-refusal-told Slices e = omega arith
-refusal-told LumaLength e = omega arith
+pub refusal-some : (r : Refusal) → number_of r ≢ 0
+refusal-some Size e = omega arith
+refusal-some Depth e = omega arith
+refusal-some Wavelet e = omega arith
+refusal-some Codeblocks e = omega arith
+refusal-some Planes e = omega arith
+refusal-some BytesEndEarly e = omega arith
+refusal-some CodeTooLong e = omega arith
+refusal-some Quantiser e = omega arith
+refusal-some ValueOutOfRange e = omega arith
+refusal-some SynthesisOutOfRange e = omega arith
+refusal-some BytesLeftOver e = omega arith
+refusal-some Slices e = omega arith
+refusal-some LumaLength e = omega arith
 
 -- refused by a check, and not
 module _ (p : Parameters) (bytes : List ℕ) (plane : List ℤ) where

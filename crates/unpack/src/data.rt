@@ -10,7 +10,7 @@ ghost use Rattle.unpack.specs.Bounds.{Checked, ClearBand, SoundHeader};
 
 use crate::header::ReadHeader;
 use base::limits::QUANTISER_MOST;
-use base::status::{Fault, Refusal};
+use base::status::{Fault, OutOfRange, Refusal};
 use codeblocks::{CodeblockGrid, Position, read_codeblocks};
 use coefficients::quantiser::{quantiser_of, small_values};
 use coefficients::reading::{Cursor, Quantiser};
@@ -31,7 +31,9 @@ pub(crate) struct Reader<'a> {
 }
 
 impl Reader<'_> {
-    // Reads what a header announces: checks the quantiser index, and then that the stated length remains.
+    // Reads what a header announces: checks the quantiser index, and then that the stated length remains. That the subband lies in the plane stays
+    // a clause, here and below: in a struct it would have the plane with it, and each call would have to lend that on.
+    #[tactic(auto, unfolding(crate::specs::Subband::headed, crate::specs::Subband::checked_data))]
     pub(crate) fn read_headed(
         self,
         plane: &mut [i32],
@@ -100,6 +102,7 @@ impl Reader<'_> {
     }
 
     // The codeblocks of subband k.
+    #[tactic(auto, unfolding(crate::specs::Subband::codeblocks_of))]
     pub(crate) fn codeblocks_of(self, k: usize) -> CodeblockGrid
         requires { k < subband_count self.p.depth }
         ensures { result ≡ codeblocks_of self.entry.p k }
@@ -130,7 +133,7 @@ pub(crate) fn predict_band(
     let s = blocks.subband;
     match predict(plane, blocks.stride, s.width, s.height) {
         Ok(()) => Ok(bit),
-        Err(_) => Err(Fault {
+        Err(OutOfRange) => Err(Fault {
             refusal: Refusal::ValueOutOfRange,
             bit,
         }),

@@ -48,7 +48,8 @@ impl Reader<'_> {
     // Reads the subbands in stream order into a plane of zeros. Where one is refused, all are zeros again.
     fn read_subbands(self, plane: &mut [i32]) -> Result<usize, Refused>
         requires { (length plane.old ≡ area_of self.p) × ClearBandsFrom self.p 0 plane.old }
-        ensures { outcome (answer_of result) plane.new ≡ subbands_from self.entry.p self.entry.bytes.now (subband_count self.entry.p.depth) 0 0 plane.old }
+        ensures { outcome (answer_of result) plane.new
+            ≡ subbands_from self.entry.p self.entry.bytes.now (subband_count self.entry.p.depth) 0 0 plane.old }
     {
         let count = subband_count(self.p.depth as usize);
         let mut at = 0;

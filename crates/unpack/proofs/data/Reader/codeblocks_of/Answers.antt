@@ -9,12 +9,6 @@ use Rattle.unpack.specs.Subband.{codeblocks_of}
 use Rattle.unpack.proofs.data.Reader.codeblocks_of.Goals as goal
 use Rattle.unpack.proofs.data.Reader.codeblocks_of.Goals.{After-subband_at-subband}
 
-pub padded_size-stride-requires : goal.padded_size-stride-requires
-padded_size-stride-requires c = (depth_most c.args.self.p c.args.self.checked.depth, width_most c.args.self.p c.args.self.checked.sizes)
-
-pub padded_size-requires : goal.padded_size-requires
-padded_size-requires c = (depth_most c.args.self.p c.args.self.checked.depth, height_most c.args.self.p c.args.self.checked.sizes)
-
 pub subband_at-subband-requires : goal.subband_at-subband-requires
 subband_at-subband-requires c = (depth_most c.args.self.p c.args.self.checked.depth, c.requires)
 
@@ -37,6 +31,3 @@ offset_bounds-p-level-2 c = omega (arith, level-small (goal.at.offset_bounds-p-l
 pub bounds-p-level-2 : goal.bounds-p-level-2
 bounds-p-level-2 c = level-small (goal.at.bounds-p-level-2 c).After-subband_at-subband
 
-pub returns : goal.returns
-unfolding codeblocks_of
-returns c = rw (c.subband_at-subband.ensures, c.padded_size.ensures, c.padded_size-stride.ensures)

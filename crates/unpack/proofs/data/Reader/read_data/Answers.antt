@@ -24,9 +24,6 @@ read_codeblocks-reached-requires c = (
   record { before_end = omega arith; small = omega (arith, c.requires.2, c.requires.3) },
 )
 
-pub invariant_of-decoder : goal.invariant_of-decoder
-invariant_of-decoder c = record { known = record { knows = c.args.self.knows; small_values = c.small_values-small.ensures } }
-
 -- the run that the callee left, as the definition has it
 left : (c : After-read_codeblocks-reached) →
     after c.read_codeblocks-reached.result.progress c.read_codeblocks-reached.new.plane ≡

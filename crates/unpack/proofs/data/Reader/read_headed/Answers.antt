@@ -5,32 +5,10 @@ use borrow.Author.Tests.{lt-ltb, le-ltb}
 use Rattle.unpack.specs.Subband.{checked_data, headed}
 use Rattle.unpack.proofs.data.Reader.read_headed.Goals as goal
 
-pub returns-then-index-gt-QUANTISER_MOST : goal.returns-then-index-gt-QUANTISER_MOST
-unfolding headed checked_data
-returns-then-index-gt-QUANTISER_MOST c = rw (c.in-Coded.is, lt-ltb 115 _ c.if-index-gt-QUANTISER_MOST.true)
-
-pub overflow_add-bit : goal.overflow_add-bit
-overflow_add-bit c =
-    let sound = rw c.in-Coded.is at c.requires.2 in
-    omega (arith, sound.0, sound.1)
-
-pub overflow_mul-result : goal.overflow_mul-result
-overflow_mul-result c =
-    let sound = rw c.in-Coded.is at c.requires.2 in
-    omega (arith, sound.0, sound.1, c.if-self-bit.true)
-
-pub returns-then-self-bit : goal.returns-then-self-bit
-unfolding headed checked_data
-returns-then-self-bit c = rw (c.in-Coded.is, le-ltb 115 c.in-Coded.index (omega arith), lt-ltb _ _ c.if-self-bit.true)
-
 pub read_data-requires : goal.read_data-requires
 read_data-requires c =
     let sound = rw c.in-Coded.is at c.requires.2 in
     (c.requires.0, c.requires.1, sound.0, sound.1, c.if-self-bit.false)
-
-pub returns-in-Skipped : goal.returns-in-Skipped
-unfolding headed
-returns-in-Skipped c = rw c.in-Skipped.is
 
 pub returns-else-self-bit : goal.returns-else-self-bit
 unfolding headed checked_data

@@ -11,10 +11,6 @@ use Rattle.unpack.proofs.Frame.{clear_next}
 use Rattle.unpack.proofs.data.Reader.read_subbands.Goals as goal
 use Rattle.unpack.proofs.data.Reader.read_subbands.Goals.{After-read_subband, In-loop-k}
 
-pub subband_count-count-requires : goal.subband_count-count-requires
-subband_count-count-requires c =
-    depth_most c.args.self.p c.args.self.checked.depth
-
 pub loop-k-init : goal.loop-k-init
 loop-k-init c =
     let all : c.subband_count-count.result - 0 ≡ c.subband_count-count.result = omega arith in
