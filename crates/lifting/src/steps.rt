@@ -11,7 +11,9 @@ use lines::sums::{lift_line, sum_taps};
 use std::array;
 
 // Lifts a line by a step: in 32 bits where the sizes of its numbers and of those that are read allow it, else exactly. Refuses where a new number is
-// outside 32 bits; then the plane's numbers are of no use.
+// outside 32 bits; then the plane's numbers are of no use. Part of its callers, so that no branch stands before the loops that are copied for
+// known taps (lifting32).
+#[inline(always)]
 pub fn lift(
     plane: &mut [i32],
     start: usize,

@@ -28,3 +28,6 @@ read_subbands-requires c =
     let plane = c.args.coefficients.now in
     (c.zero.auto.plane ∙ job-fits c.args.p plane (none (goal.at.read_subbands-requires c).In_ok-check), rw c.zero.ensures (zeros-clear c.args.p plane))
 
+pub returns : goal.returns
+returns c =
+    c.read_subbands.ensures ∙ rw c.zero.ensures (sym (job_read c.args.p c.args.bytes.now c.args.coefficients.now (none (goal.at.returns c).In_ok-check)))

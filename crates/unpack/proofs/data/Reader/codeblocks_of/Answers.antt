@@ -5,9 +5,14 @@ use native.Mathlib.Omega.{arith}
 use Rattle.component.specs.Subbands.{subband_at, subband_level}
 use Rattle.component.specs.declared.subbands.Subband.{Subband}
 use Rattle.component.proofs.ChecksLaws.{width_most, height_most, depth_most}
-use Rattle.unpack.specs.Subband.{codeblocks_of}
 use Rattle.unpack.proofs.data.Reader.codeblocks_of.Goals as goal
 use Rattle.unpack.proofs.data.Reader.codeblocks_of.Goals.{After-subband_at-subband}
+
+pub padded_size-stride-requires : goal.padded_size-stride-requires
+padded_size-stride-requires c = (depth_most c.args.self.p c.args.self.checked.depth, width_most c.args.self.p c.args.self.checked.sizes)
+
+pub padded_size-requires : goal.padded_size-requires
+padded_size-requires c = (depth_most c.args.self.p c.args.self.checked.depth, height_most c.args.self.p c.args.self.checked.sizes)
 
 pub subband_at-subband-requires : goal.subband_at-subband-requires
 subband_at-subband-requires c = (depth_most c.args.self.p c.args.self.checked.depth, c.requires)
@@ -22,12 +27,11 @@ level-small c =
 pub offset_bounds-p-level : goal.offset_bounds-p-level
 offset_bounds-p-level c = omega (arith, level-small (goal.at.offset_bounds-p-level c).After-subband_at-subband)
 
-pub bounds-p-level : goal.bounds-p-level
-bounds-p-level c = level-small (goal.at.bounds-p-level c).After-subband_at-subband
-
 pub offset_bounds-p-level-2 : goal.offset_bounds-p-level-2
 offset_bounds-p-level-2 c = omega (arith, level-small (goal.at.offset_bounds-p-level-2 c).After-subband_at-subband)
 
+pub bounds-p-level : goal.bounds-p-level
+bounds-p-level c = level-small (goal.at.bounds-p-level c).After-subband_at-subband
+
 pub bounds-p-level-2 : goal.bounds-p-level-2
 bounds-p-level-2 c = level-small (goal.at.bounds-p-level-2 c).After-subband_at-subband
-

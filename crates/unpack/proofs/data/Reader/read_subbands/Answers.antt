@@ -1,4 +1,4 @@
-use mathlib.Core.Path.{◌≡◌, refl, sym, ap, ◌∙◌}
+use mathlib.Core.Path.{◌≡◌, sym, ap, ◌∙◌}
 use Prim.Native.Nat.{ℕ, suc, ◌+◌, ◌-◌, ◌<◌}
 use native.Mathlib.Omega.{arith}
 use Rattle.component.specs.Subbands.{subband_count}
@@ -11,10 +11,9 @@ use Rattle.unpack.proofs.Frame.{clear_next}
 use Rattle.unpack.proofs.data.Reader.read_subbands.Goals as goal
 use Rattle.unpack.proofs.data.Reader.read_subbands.Goals.{After-read_subband, In-loop-k}
 
-pub loop-k-init : goal.loop-k-init
-loop-k-init c =
-    let all : c.subband_count-count.result - 0 ≡ c.subband_count-count.result = omega arith in
-    (omega arith, refl, c.requires.1, rw all refl)
+pub subband_count-count-requires : goal.subband_count-count-requires
+subband_count-count-requires c =
+    depth_most c.args.self.p c.args.self.checked.depth
 
 -- a subband that is left
 in-turn : (c : In-loop-k) → c.loop-k.k < subband_count c.args.self.p.depth
