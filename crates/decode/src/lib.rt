@@ -30,7 +30,7 @@ pub fn decode(
     };
     check(Job::Decode, p, lengths)?;
     let used = match unpack(p, bytes, coefficients) {
-        Ok(used) => used,
+        Ok(count) => count,
         Err(refused) => {
             zero(work);
             zero(samples);
