@@ -205,15 +205,6 @@ module _ (bytes : List ℕ) (c₀ : Cursor) (scale index : ℕ → ℕ) (i₀ : 
           full = full;
         }
 
-  pub portion-all : (n bit : ℕ) (plane : List ℤ) → bit ≤ c₀.end → Sofar n bit plane → Reads bytes c₀ scale index i₀ plane₀ (record { count = n; progress = Ok bit; short = false }) plane
-  portion-all n bit plane inside sofar =
-      record {
-        values = sofar;
-        before_end = λ next on. let there : bit ≡ next = cc in omega arith;
-        close_to_end = λ e. absurd (true≢false (sym e));
-        full = λ e. refl;
-      }
-
   -- the entries of later values are as they were
   pub sofar-clear : (grows : (i j : ℕ) → i < j → index i < index j) (room n bit : ℕ) (plane : List ℤ) → Clear index i₀ room plane₀ → Sofar n bit plane →
       (i : ℕ) → i ≡ i₀ + n → Clear index i room plane

@@ -24,7 +24,7 @@ pub fn quantiser_by(factors: &[u32; 116], intra: bool, index: u32) -> Quantiser
     requires { (index ≤ 115) × KnowsFactors factors.now }
     ensures { scale_of result ≡ dequantise intra index }
 {
-    let factor = factors[index as usize] as u64;
+    let factor = u64::from(factors[index as usize]);
     let offset = quant_offset(intra, index, factor);
     Quantiser { factor, offset }
 }
@@ -36,8 +36,7 @@ pub fn dequantised(q: Quantiser, size: u32) -> u64
     if size == 0 {
         return 0;
     }
-    let m = size as u64;
-    (m * q.factor + q.offset + 2) / 4
+    (u64::from(size) * q.factor + q.offset + 2) / 4
 }
 
 // Whether every size below 15, dequantised, fits a plane.
@@ -56,11 +55,9 @@ pub fn small_values(q: Quantiser) -> [i32; 32]
     if !small_fit(q) {
         return small;
     }
-    let mut k: usize = 0;
-    while k < 30 {
+    for k in 0..30 {
         let size = (k / 2) as u32;
         small[k] = signed::narrow(signed::with_sign(dequantised(q, size), k % 2 == 1));
-        k += 1;
     }
     small
 }
@@ -70,8 +67,7 @@ fn quant_factor(index: u32) -> u64
     requires { index ≤ 115 }
     ensures { result ≡ quant_factor index }
 {
-    let table = factor_table();
-    table[index as usize] as u64
+    u64::from(factor_table()[index as usize])
 }
 
 // The factors of all indices.

@@ -14,7 +14,7 @@ pub struct Cursor {
 }
 
 // How many values were read, the bit that reading has come to or its refusal, and whether reading stopped for want of bits. A refusal's bit is
-// counted from the start of all the bytes.
+// counted from the start of all the bytes. A portion that is short goes on at its bit as any other does, so this stands beside the bit.
 #[derive(Clone, Copy)]
 pub struct Portion {
     pub count: usize,

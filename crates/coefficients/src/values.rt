@@ -35,7 +35,7 @@ pub struct Decoder<'a> {
     pub ghost known: { Decoding q table.now small.now },
 }
 
-// How many values were read, and how many bits they took.
+// How many values were read, maybe none, and how many bits they took.
 #[derive(Clone, Copy)]
 pub struct Batch {
     pub count: usize,
@@ -98,10 +98,8 @@ fn read_some(
     ensures read { Reads bytes.now cursor (scale_of decoder.entry.q) (index_of layout) i plane.old result plane.new }
     ensures some { (i + result.count ≤ layout.count) × (result.short ≡ false → 1 ≤ result.count) }
 {
-    if small_fit(decoder.q) {
-        if is_window(bytes, cursor.end, cursor.bit) {
-            return read_window(plane, layout, i, bytes, cursor, decoder);
-        }
+    if small_fit(decoder.q) && is_window(bytes, cursor.end, cursor.bit) {
+        return read_window(plane, layout, i, bytes, cursor, decoder);
     }
     read_value(plane, layout, i, bytes, cursor, decoder.q)
 }
@@ -168,7 +166,7 @@ fn read_batch(
 }
 
 // Reads values by the bits of a window where 63 or more are left: 32 at once where they are zeros; others by at most seven lookups, none of which
-// can pass the layout's end, since each has nine values at most.
+// can pass the layout's end, since each has nine values at most: so no turn asks for the end, which is why these are not `read_lookups`.
 fn read_many(plane: &mut [i32], layout: Layout, from: usize, window: u64, decoder: Decoder) -> Batch
     requires { (from + 63 ≤ layout.count) × Ready layout from plane.old }
     ensures { ReadsWithin window decoder.entry.small.now layout from plane.old result plane.new }
@@ -182,8 +180,7 @@ fn read_many(plane: &mut [i32], layout: Layout, from: usize, window: u64, decode
     let mut w = window;
     let mut i = from;
     let mut bits = 0;
-    let mut k: usize = 0;
-    while k < 7 {
+    for _ in 0..7usize {
         let next = lookup_at(decoder.table, w);
         if next.bits == 0 {
             return Batch {
@@ -192,12 +189,10 @@ fn read_many(plane: &mut [i32], layout: Layout, from: usize, window: u64, decode
             };
         }
         let index = index_at(layout, i + next.zeros);
-        let value = next.value;
-        plane[index] = decoder.small[value];
-        w = w << next.bits;
+        plane[index] = decoder.small[next.value];
+        w <<= next.bits;
         i += next.count;
         bits += next.bits;
-        k += 1;
     }
     Batch {
         count: i - from,
@@ -217,9 +212,8 @@ fn read_codes(
     ensures { ReadsWithin window decoder.entry.small.now layout from plane.old result plane.new }
 {
     let mut w = window;
-    let mut i = from;
     let mut bits = 0;
-    while i < layout.count {
+    for i in from..layout.count {
         let lookup = lookup_at(decoder.table, w);
         let taken = first_bits(lookup);
         if taken == 0 {
@@ -229,14 +223,12 @@ fn read_codes(
             };
         }
         let index = index_at(layout, i);
-        let value = first_value(lookup);
-        plane[index] = decoder.small[value];
-        w = w << taken;
+        plane[index] = decoder.small[first_value(lookup)];
+        w <<= taken;
         bits += taken;
-        i += 1;
     }
     Batch {
-        count: i - from,
+        count: layout.count - from,
         bits,
     }
 }
@@ -255,8 +247,7 @@ fn read_lookups(
     let mut w = window;
     let mut i = from;
     let mut bits = 0;
-    let mut k: usize = 0;
-    while k < 7 {
+    for _ in 0..7usize {
         let lookup = lookup_at(decoder.table, w);
         let to = i + lookup.zeros;
         if layout.count <= to {
@@ -272,12 +263,10 @@ fn read_lookups(
             };
         }
         let index = index_at(layout, to);
-        let value = lookup.value;
-        plane[index] = decoder.small[value];
-        w = w << lookup.bits;
+        plane[index] = decoder.small[lookup.value];
+        w <<= lookup.bits;
         i += lookup.count;
         bits += lookup.bits;
-        k += 1;
     }
     Batch {
         count: i - from,

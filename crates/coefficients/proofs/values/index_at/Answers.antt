@@ -1,7 +1,7 @@
 -- `coefficients::values::index_at` meets its contract: it computes the definition, and every part of the sum is at most the index.
 use mathlib.Core.Path.{◌≡◌, refl}
 use Prim.Native.Nat.{ℕ, ◌+◌, ◌*◌, ◌/◌, ◌<◌, ◌^◌}
-use native.Mathlib.Nat.{mul-le-mul, mul-zero, zero-mul}
+use native.Mathlib.Nat.{mul-zero, zero-mul}
 use native.Mathlib.Omega.{arith}
 use Rattle.coefficients.specs.Values.{index_of}
 use Rattle.coefficients.proofs.values.index_at.Goals as goal
@@ -27,10 +27,6 @@ returns-then-layout-eq0 c = alone _ _ _ _ (omega (arith, c.if-layout-eq0.true))
 
 pub overflow_add-result-2 : goal.overflow_add-result-2
 overflow_add-result-2 c = omega (arith, room (goal.at.overflow_add-result-2 c).Start)
-
-pub overflow_mul-result : goal.overflow_mul-result
-overflow_mul-result c =
-    omega (arith, mul-le-mul c.requires.0 c.requires.1)
 
 pub overflow_mul-result-2 : goal.overflow_mul-result-2
 overflow_mul-result-2 c = omega (arith, room (goal.at.overflow_mul-result-2 c).Start)

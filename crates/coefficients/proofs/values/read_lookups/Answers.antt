@@ -7,104 +7,56 @@ use Rattle.base.proofs.RangeLaws.{back}
 use Rattle.lookups.proofs.LookupsLaws.{lookup-count}
 use Rattle.coefficients.proofs.BatchesLaws.{taken_none, taken-lookup, taken-zeros}
 use Rattle.coefficients.proofs.values.read_lookups.Goals as goal
-use Rattle.coefficients.proofs.values.read_lookups.Goals.{After-index_at-index, At-loop-k}
+use Rattle.coefficients.proofs.values.read_lookups.Goals.{After-index_at-index, At-loop}
 
-pub loop-k-init : goal.loop-k-init
-loop-k-init c = (omega arith, omega arith, c.requires.counted, taken_none _ _ _ _ _ c.requires)
-
-pub overflow_add-to : goal.overflow_add-to
-overflow_add-to c = omega (arith, c.lookup_at-lookup.ensures.zeros_most, c.loop-k.invariant.2, c.requires.few)
-
-pub overflow_sub-result : goal.overflow_sub-result
-overflow_sub-result c = omega (arith, c.requires.counted)
-
-pub overflow_sub-result-then-layout-to : goal.overflow_sub-result-then-layout-to
-overflow_sub-result-then-layout-to c = omega (arith, c.loop-k.invariant.2)
-
-pub overflow_add-result : goal.overflow_add-result
-overflow_add-result c =
-    omega (arith, c.loop-k.invariant.0, c.loop-k.invariant.1, c.loop-k.invariant.2, c.requires.few)
+pub loop-init : goal.loop-init
+loop-init c = (omega arith, omega arith, c.requires.counted, taken_none _ _ _ _ _ c.requires)
 
 pub shape_of-plane-then-layout-to : goal.shape_of-plane-then-layout-to
-shape_of-plane-then-layout-to c = c.loop-k.invariant.3.same
+shape_of-plane-then-layout-to c = c.loop.invariant.3.same
 
 pub returns-then-layout-to : goal.returns-then-layout-to
 returns-then-layout-to c = (
   omega (arith, c.requires.counted),
-  taken-zeros _ _ _ _ _ c.requires _ _ _ _ c.lookup_at-lookup.result (omega (arith, c.loop-k.invariant.1, c.loop-k-test)) c.loop-k.invariant.3 c.lookup_at-lookup.ensures
-      (c.args.layout.count - c.loop-k.i) _ (omega (arith, c.if-layout-to.true)) (omega (arith, c.loop-k.invariant.2)) (omega (arith, c.loop-k.invariant.2)),
+  taken-zeros _ _ _ _ _ c.requires _ _ _ _ c.lookup_at-lookup.result (omega (arith, c.loop.invariant.1, c.loop-test)) c.loop.invariant.3 c.lookup_at-lookup.ensures
+      (c.args.layout.count - c.loop.i) _ (omega (arith, c.if-layout-to.true)) (omega (arith, c.loop.invariant.2)) (omega (arith, c.loop.invariant.2)),
 )
 
-pub overflow_sub-result-then-lookup-eq0 : goal.overflow_sub-result-then-lookup-eq0
-overflow_sub-result-then-lookup-eq0 c = omega (arith, c.loop-k.invariant.3.started)
-
 pub shape_of-plane-then-lookup-eq0 : goal.shape_of-plane-then-lookup-eq0
-shape_of-plane-then-lookup-eq0 c = c.loop-k.invariant.3.same
+shape_of-plane-then-lookup-eq0 c = c.loop.invariant.3.same
 
 -- the values taken so far are before the layout's end
-within : (c : At-loop-k) → c.args.from + (c.loop-k.i - c.args.from) ≤ c.args.layout.count
-within c = omega (arith, c.loop-k.invariant.2, c.loop-k.invariant.3.started)
+within : (c : At-loop) → c.args.from + (c.loop.i - c.args.from) ≤ c.args.layout.count
+within c = omega (arith, c.loop.invariant.2, c.loop.invariant.3.started)
 
 pub returns-then-lookup-eq0 : goal.returns-then-lookup-eq0
 returns-then-lookup-eq0 c =
-    (within (goal.at.returns-then-lookup-eq0 c).At-loop-k, c.loop-k.invariant.3.reads)
+    (within (goal.at.returns-then-lookup-eq0 c).At-loop, c.loop.invariant.3.reads)
 
 pub index_at-index-requires : goal.index_at-index-requires
 index_at-index-requires c =
     let ready = c.requires in
-    let below : c.loop-k.i + c.lookup_at-lookup.result.zeros < c.args.layout.count = omega (arith, c.if-layout-to.false) in
+    let below : c.loop.i + c.lookup_at-lookup.result.zeros < c.args.layout.count = omega (arith, c.if-layout-to.false) in
     (omega (arith, ready.few), ready.low, omega (arith, ready.inside _ below))
 
 -- the entry that is stored lies in the plane
-inside : (c : After-index_at-index) → c.index_at-index.result < length c.loop-k.plane
+inside : (c : After-index_at-index) → c.index_at-index.result < length c.loop.plane
 inside c =
-    let below : c.loop-k.i + c.lookup_at-lookup.result.zeros < c.args.layout.count = omega (arith, c.if-layout-to.false) in
-    rw (c.index_at-index.ensures, c.loop-k.invariant.3.same) (c.requires.inside _ below)
+    let below : c.loop.i + c.lookup_at-lookup.result.zeros < c.args.layout.count = omega (arith, c.if-layout-to.false) in
+    rw (c.index_at-index.ensures, c.loop.invariant.3.same) (c.requires.inside _ below)
 
-pub offset_bounds-decoder-value : goal.offset_bounds-decoder-value
-offset_bounds-decoder-value c = omega (arith, c.lookup_at-lookup.ensures.value_most)
-
-pub bounds-decoder-value : goal.bounds-decoder-value
-bounds-decoder-value c = omega (arith, c.lookup_at-lookup.ensures.value_most)
-
-pub offset_bounds-plane-index : goal.offset_bounds-plane-index
-offset_bounds-plane-index c = omega (arith, inside (goal.at.offset_bounds-plane-index c).After-index_at-index)
-
-pub bounds-plane-index : goal.bounds-plane-index
-bounds-plane-index c = omega (arith, inside (goal.at.bounds-plane-index c).After-index_at-index)
-
-pub overflow_shl-w : goal.overflow_shl-w
-overflow_shl-w c = omega (arith, c.lookup_at-lookup.ensures.bits_most)
-
-pub overflow_add-i : goal.overflow_add-i
-overflow_add-i c =
-    omega (arith, c.loop-k.invariant.2, c.requires.few, lookup-count _ _ c.lookup_at-lookup.ensures, c.lookup_at-lookup.ensures.zeros_most)
-
-pub overflow_add-bits : goal.overflow_add-bits
-overflow_add-bits c =
-    omega (arith, c.loop-k.invariant.0, c.loop-k.invariant.1, c.lookup_at-lookup.ensures.bits_most)
-
-pub overflow_add-k : goal.overflow_add-k
-overflow_add-k c = omega (arith, c.loop-k.invariant.0)
-
-pub loop-k-smaller : goal.loop-k-smaller
-loop-k-smaller c = omega (arith, c.loop-k-test)
-
-pub loop-k-preserved : goal.loop-k-preserved
-loop-k-preserved c =
-    let fits : c.loop-k.i + c.lookup_at-lookup.result.zeros < c.args.layout.count = omega (arith, c.if-layout-to.false) in (
-      omega (arith, c.loop-k-test),
-      omega (arith, c.loop-k.invariant.1, c.lookup_at-lookup.ensures.bits_most),
+pub loop-preserved : goal.loop-preserved
+loop-preserved c =
+    let fits : c.loop.i + c.lookup_at-lookup.result.zeros < c.args.layout.count = omega (arith, c.if-layout-to.false) in (
+      omega (arith, c.loop-test),
+      omega (arith, c.loop.invariant.1, c.lookup_at-lookup.ensures.bits_most),
       omega (arith, fits, lookup-count _ _ c.lookup_at-lookup.ensures),
       rw (back w32 (get_or c.args.decoder.small.now c.lookup_at-lookup.result.value (pos 0)) c.plane-1.given, c.index_at-index.ensures)
-          (taken-lookup _ _ _ _ _ c.requires _ _ _ _ _ (omega (arith, c.loop-k.invariant.1, c.loop-k-test)) c.loop-k.invariant.3 c.lookup_at-lookup.ensures fits),
+          (taken-lookup _ _ _ _ _ c.requires _ _ _ _ _ (omega (arith, c.loop.invariant.1, c.loop-test)) c.loop.invariant.3 c.lookup_at-lookup.ensures fits),
     )
 
-pub overflow_sub-result-2 : goal.overflow_sub-result-2
-overflow_sub-result-2 c = omega (arith, c.loop-k.invariant.3.started)
-
 pub shape_of-plane : goal.shape_of-plane
-shape_of-plane c = c.loop-k.invariant.3.same
+shape_of-plane c = c.loop.invariant.3.same
 
 pub returns : goal.returns
-returns c = (within (goal.at.returns c).At-loop-k, c.loop-k.invariant.3.reads)
+returns c = (within (goal.at.returns c).At-loop, c.loop.invariant.3.reads)

@@ -6,11 +6,6 @@ use Rattle.coefficients.specs.Values.{index_of}
 use Rattle.coefficients.proofs.PortionsLaws.{number-before, not-read-some, portion-stored, portion-not-read}
 use Rattle.coefficients.proofs.values.read_value.Goals as goal
 
-pub index_at-index-requires : goal.index_at-index-requires
-index_at-index-requires c =
-    let ready = c.requires.1 in
-    (omega (arith, c.requires.0, ready.few), ready.low, omega (arith, ready.inside _ c.requires.0))
-
 pub store_value-requires : goal.store_value-requires
 store_value-requires c =
     let close_to_end = number-before c.args.bytes.now c.args.cursor c.requires.2.before_end in
