@@ -1,12 +1,8 @@
--- The code's own forms: values that go one after the other to entries of a plane, and what they are decoded by. No definition of the format
--- rests on them.
-use Rattle.std.specs.Prelude.{ℕ, ◌+◌, ◌*◌, ◌/◌, ◌≤◌, ◌<◌, ◌≡◌, true, Result, List, ℤ, pos, length, get_or, set}
+-- The code's own forms: values that go one after the other to entries of a plane. No definition of the format rests on them.
+use Rattle.std.specs.Prelude.{ℕ, ◌+◌, ◌*◌, ◌/◌, ◌≤◌, ◌<◌, ◌≡◌, Result, List, ℤ, pos, length, get_or, set}
 use Rattle.base.specs.Walk.{walk}
 use Rattle.base.specs.declared.status.Fault.{Fault}
-use Rattle.lookups.specs.Lookups.{KnowsCodes}
 use Rattle.coefficients.specs.Reading.{Run, progress_of, value}
-use Rattle.coefficients.specs.Scaling.{scale_of, small_fit, Small}
-use Rattle.coefficients.specs.declared.reading.Quantiser.{Quantiser}
 use Rattle.coefficients.specs.declared.values.Layout.{Layout}
 
 -- What a call left: how far it came, and the plane.
@@ -36,8 +32,3 @@ pub record Ready (l : Layout) (i : ℕ) (plane : List ℤ) : Type 0 where
   pub counted : i ≤ l.count
   pub inside : (k : ℕ) → k < l.count → index_of l k < length plane
   pub clear : Clear (index_of l) i l.count plane
-
--- What values are decoded by: a quantiser, a table of codes, and the small values.
-pub record Decoding (q : Quantiser) (table : List ℕ) (small : List ℤ) : Type 0 where
-  pub knows : KnowsCodes table
-  pub small_values : small_fit q ≡ true → Small (scale_of q) small

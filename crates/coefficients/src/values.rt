@@ -5,8 +5,8 @@ ghost use Rattle.base.specs.Sign.{with_sign};
 ghost use Rattle.exp_golomb.specs.Codes.{Number, result_of};
 ghost use Rattle.lookups.specs.Windows.{is_window};
 ghost use Rattle.coefficients.specs.Reading.{store};
-ghost use Rattle.coefficients.specs.Scaling.{scale_of, small_fit};
-ghost use Rattle.coefficients.specs.Values.{after, index_of, Ready, Decoding};
+ghost use Rattle.coefficients.specs.Scaling.{scale_of, small_fit, Small};
+ghost use Rattle.coefficients.specs.Values.{after, index_of, Ready};
 ghost use Rattle.coefficients.specs.Portions.{Sound, not_read, Reads, AllRead};
 ghost use Rattle.coefficients.specs.Batches.{ReadsWithin};
 ghost use Rattle.coefficients.specs.declared.values.Layout.{Layout};
@@ -16,7 +16,7 @@ use crate::reading::{Cursor, Portion, Quantiser};
 use base::signed;
 use base::status::{Fault, Refusal};
 use exp_golomb::codes::{ReadNumber, read_signed};
-use lookups::{first_bits, first_value, is_window, lookup_at, starts_with_ones, window};
+use lookups::{CodeTable, is_window, starts_with_ones, window};
 
 // Where values go: value i to entry start + i + floor(i · reciprocal / 2^24) · gap, for i below count.
 #[derive(Clone, Copy)]
@@ -57,13 +57,13 @@ impl Placing for Layout {
     }
 }
 
-// What values are decoded by: a quantiser, a table of codes, and the small values.
+// What values are decoded by: a quantiser, a table of codes, and the small values, which are known where all of them fit.
 #[derive(Clone, Copy)]
 pub struct Decoder<'a> {
     pub q: Quantiser,
-    pub table: &'a [u16; 256],
+    pub table: &'a CodeTable,
     pub small: &'a [i32; 32],
-    pub ghost known: { Decoding q table.now small.now },
+    pub ghost small_known: { small_fit q ≡ true → Small (scale_of q) small.now },
 }
 
 // How many values were read, maybe none, and how many bits they took.
@@ -227,7 +227,7 @@ fn read_many(plane: &mut [i32], layout: Layout, from: usize, window: u64, decode
     let mut i = from;
     let mut bits = 0;
     for _ in 0..7usize {
-        let next = lookup_at(decoder.table, w);
+        let next = decoder.table.look_up(w);
         if next.bits == 0 {
             return Batch {
                 count: i - from,
@@ -260,8 +260,8 @@ fn read_codes(
     let mut w = window;
     let mut bits = 0;
     for i in from..layout.count {
-        let lookup = lookup_at(decoder.table, w);
-        let taken = first_bits(lookup);
+        let lookup = decoder.table.look_up(w);
+        let taken = lookup.first_bits();
         if taken == 0 {
             return Batch {
                 count: i - from,
@@ -269,7 +269,7 @@ fn read_codes(
             };
         }
         let index = layout.index_at(i);
-        plane[index] = decoder.small[first_value(lookup)];
+        plane[index] = decoder.small[lookup.first_value()];
         w <<= taken;
         bits += taken;
     }
@@ -295,7 +295,7 @@ fn read_lookups<P: Placing>(
     let mut i = from;
     let mut bits = 0;
     for _ in 0..7usize {
-        let lookup = lookup_at(decoder.table, w);
+        let lookup = decoder.table.look_up(w);
         let to = i + lookup.zeros;
         if count <= to {
             return Batch {

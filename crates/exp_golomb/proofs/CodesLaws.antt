@@ -101,6 +101,12 @@ module _ (bytes : List ℕ) (end : ℕ) (stated : Bool) where
   unfolding with_sign_bit on_bit
   sign_read number size minus next bit after e some more = rw (e, ne_eqb size 0 some, more)
 
--- the value stays below a power of two that grows with the data bits
-pub value_grows : (v d k : ℕ) → d ≤ 1 → v < 2 ^ (k + 1) → 2 * v + d < 2 ^ (k + 1 + 1)
-value_grows v d k bit below = rw (pow-add 2 (k + 1) 1) (omega arith)
+-- the value stays below a power of two that grows with the data bits, those read and those left
+pub value_doubled : (v d k : ℕ) → d ≤ 1 → v < 2 ^ (k + 1) → 2 * v + d < 2 ^ (k + 1 + 1)
+value_doubled v d k bit below = rw (pow-add 2 (k + 1) 1) (omega arith)
+
+pub value_grows : (v d left : ℕ) → left ≤ 31 → left ≢ 0 → d ≤ 1 → v < 2 ^ (32 - left) → 2 * v + d < 2 ^ (32 - (left - 1))
+value_grows v d left small some bit below =
+    let now : 32 - left ≡ 31 - left + 1 = omega arith in
+    let up : 32 - (left - 1) ≡ 31 - left + 1 + 1 = omega arith in
+    rw up (value_doubled v d (31 - left) bit (rw now at below))

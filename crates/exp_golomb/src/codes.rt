@@ -16,7 +16,8 @@ pub struct ReadNumber {
 }
 
 // The unsigned number whose code starts at bit `at` of data that end at bit `end`, or where the bytes do. A refusal's bit is the one after
-// those taken.
+// those taken. Bytes, end and stated stay arguments, as the definitions have them: callers keep end and stated in a cursor of their own, and would
+// fill a struct for each call.
 pub fn read_unsigned(bytes: &[u8], end: usize, stated: bool, at: usize) -> Result<ReadNumber, Fault>
     ensures { result ≡ result_of (unsigned bytes.now end stated at) }
 {

@@ -12,7 +12,7 @@ use Rattle.runs.proofs.read_window.Goals.{Then-batch-eq0}
 same-run : (c : Then-batch-eq0) →
     c.read_few-batch.new.plane ≡ c.args.run.now
 same-run c =
-    none-padded _ c.args.cursor (scale_of c.args.decoder.q) (index_of (side_by_side c.args.placing.count)) c.args.i _ _ _ c.read_few-batch.result _ (c.args.decoder.known.small_values c.requires.fit)
+    none-padded _ c.args.cursor (scale_of c.args.decoder.q) (index_of (side_by_side c.args.placing.count)) c.args.i _ _ _ c.read_few-batch.result _ (c.args.decoder.small_known c.requires.fit)
     c.requires.ready.2 c.padded_window-w.ensures c.read_few-batch.ensures.1 c.if-batch-eq0.true
 
 pub read_value-requires : goal.read_value-requires
@@ -27,7 +27,7 @@ returns-then-batch-eq0 c =
 pub returns : goal.returns
 returns c =
     record {
-      read = portion-padded _ c.args.cursor _ (index_of (side_by_side c.args.placing.count)) _ _ _ _ c.read_few-batch.result _ (c.args.decoder.known.small_values c.requires.fit) c.requires.ready.2
+      read = portion-padded _ c.args.cursor _ (index_of (side_by_side c.args.placing.count)) _ _ _ _ c.read_few-batch.result _ (c.args.decoder.small_known c.requires.fit) c.requires.ready.2
           c.padded_window-w.ensures c.read_few-batch.ensures.1 _ (omega arith);
       some = (omega (arith, c.if-batch-eq0.false), c.read_few-batch.ensures.0);
     }

@@ -17,7 +17,7 @@ shape_of-plane-then-taken-eq0 c = c.loop-i.invariant.2.same
 -- the bits of the next value are few
 bits_most : (c : After-first_value) → c.first_bits-taken.result ≤ 8
 bits_most c =
-    first-most c.lookup_at-lookup.result _ 1 _ 8 c.first_bits-taken.ensures (omega arith) c.lookup_at-lookup.ensures.bits_most
+    first-most c.look_up-lookup.result _ 1 _ 8 c.first_bits-taken.ensures (omega arith) c.look_up-lookup.ensures.bits_most
 
 -- the bits taken so far, where a value is left
 few : (c : After-first_value) → c.loop-i.bits ≤ 48
@@ -30,7 +30,7 @@ loop-i-preserved c =
       omega (arith, c.loop-i.invariant.0, c.loop-i.invariant.2.started, bits_most (goal.at.loop-i-preserved c).After-first_value),
       omega (arith, below),
       rw (back w32 (get_or c.args.decoder.small.now c.first_value.result (pos 0)) c.plane-1.given, c.index_at-index.ensures)
-          (taken-code _ _ _ _ _ c.requires.1 _ _ _ _ _ (few (goal.at.loop-i-preserved c).After-first_value) c.loop-i.invariant.2 c.lookup_at-lookup.ensures _ _ c.first_value.ensures
+          (taken-code _ _ _ _ _ c.requires.1 _ _ _ _ _ (few (goal.at.loop-i-preserved c).After-first_value) c.loop-i.invariant.2 c.look_up-lookup.ensures _ _ c.first_value.ensures
           c.first_bits-taken.ensures c.if-taken-eq0.false below),
     )
 

@@ -29,17 +29,17 @@ returns-then-next-eq0 c =
 
 -- and so is that of the next lookup
 below : (c : Else-next-eq0) →
-    c.loop.i + c.lookup_at-next.result.zeros < c.args.layout.count
+    c.loop.i + c.look_up-next.result.zeros < c.args.layout.count
 below c =
-    omega (arith, c.requires.0, c.loop.invariant.2, c.loop-test, c.lookup_at-next.ensures.zeros_most)
+    omega (arith, c.requires.0, c.loop.invariant.2, c.loop-test, c.look_up-next.ensures.zeros_most)
 
 pub loop-preserved : goal.loop-preserved
 loop-preserved c = (
   omega (arith, c.loop-test),
-  omega (arith, c.loop.invariant.1, c.lookup_at-next.ensures.bits_most),
-  omega (arith, c.loop.invariant.2, lookup-count _ _ c.lookup_at-next.ensures, c.lookup_at-next.ensures.zeros_most),
-  rw (back w32 (get_or c.args.decoder.small.now c.lookup_at-next.result.value (pos 0)) c.plane-1.given, c.index_at-index.ensures)
-      (taken-lookup _ _ _ _ _ c.requires.1 _ _ _ _ _ (omega (arith, c.loop.invariant.1, c.loop-test)) c.loop.invariant.3 c.lookup_at-next.ensures (below (goal.at.loop-preserved c).Else-next-eq0)),
+  omega (arith, c.loop.invariant.1, c.look_up-next.ensures.bits_most),
+  omega (arith, c.loop.invariant.2, lookup-count _ _ c.look_up-next.ensures, c.look_up-next.ensures.zeros_most),
+  rw (back w32 (get_or c.args.decoder.small.now c.look_up-next.result.value (pos 0)) c.plane-1.given, c.index_at-index.ensures)
+      (taken-lookup _ _ _ _ _ c.requires.1 _ _ _ _ _ (omega (arith, c.loop.invariant.1, c.loop-test)) c.loop.invariant.3 c.look_up-next.ensures (below (goal.at.loop-preserved c).Else-next-eq0)),
 )
 
 pub shape_of-plane : goal.shape_of-plane

@@ -24,7 +24,7 @@ same-plane : (c : Then-batch-eq0) →
     Ahead c.args.bytes.now c.args.cursor.end c.window-w.result c.args.cursor.bit 56 →
     c.read_batch-batch.new.plane ≡ c.args.plane.now
 same-plane c ahead =
-    none_ahead _ c.args.cursor (scale_of c.args.decoder.q) (index_of c.args.layout) c.args.i _ _ _ c.read_batch-batch.result _ (c.args.decoder.known.small_values c.requires.there.0)
+    none_ahead _ c.args.cursor (scale_of c.args.decoder.q) (index_of c.args.layout) c.args.i _ _ _ c.read_batch-batch.result _ (c.args.decoder.small_known c.requires.there.0)
     ahead c.read_batch-batch.ensures.1 c.if-batch-eq0.true
 
 pub read_value-requires : goal.read_value-requires
@@ -38,7 +38,7 @@ returns-then-batch-eq0 c =
 pub returns : goal.returns
 returns c =
     record {
-      read = portion-ahead _ c.args.cursor _ (index_of c.args.layout) _ _ _ _ c.read_batch-batch.result _ (c.args.decoder.known.small_values c.requires.there.0) (there (goal.at.returns c).After-window-w)
+      read = portion-ahead _ c.args.cursor _ (index_of c.args.layout) _ _ _ _ c.read_batch-batch.result _ (c.args.decoder.small_known c.requires.there.0) (there (goal.at.returns c).After-window-w)
           c.read_batch-batch.ensures.1;
       some = (c.read_batch-batch.ensures.0, λ e. omega (arith, c.if-batch-eq0.false));
     }

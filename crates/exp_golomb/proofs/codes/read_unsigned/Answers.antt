@@ -6,7 +6,7 @@ use lib.Pow.{pow_mono}
 use Rattle.std.proofs.lemmas.Result.{err_from_is_err_and}
 use Rattle.exp_golomb.specs.Codes.{unsigned}
 use Rattle.exp_golomb.proofs.BitsLaws.{bit-taken}
-use Rattle.exp_golomb.proofs.CodesLaws.{needed-taken, needed-absent, code-missing, code-ends, code-too-long, code-cut, code-goes-on, value_grows}
+use Rattle.exp_golomb.proofs.CodesLaws.{needed-taken, needed-absent, code-missing, code-ends, code-too-long, code-cut, code-goes-on, value_doubled}
 use Rattle.exp_golomb.proofs.codes.read_unsigned.Goals as goal
 use Rattle.exp_golomb.proofs.codes.read_unsigned.Goals.{In_ok-data}
 
@@ -51,7 +51,7 @@ loop-preserved c =
     let less : 31 - c.loop.counter - 1 ≡ 31 - (c.loop.counter + 1) = omega arith in
     let some : 31 - c.loop.counter ≢ 0 = λ none. omega arith in (
       omega (arith, c.loop.invariant.0),
-      value_grows _ _ c.loop.counter (data-bit (goal.at.loop-preserved c).In_ok-data) c.loop.invariant.1,
+      value_doubled _ _ c.loop.counter (data-bit (goal.at.loop-preserved c).In_ok-data) c.loop.invariant.1,
       rw (← less)
           (sym (code-goes-on _ _ _ _ _ _ _ _ _ _ (needed-taken _ _ _ c.in_ok-last.ensures) c.if-last-eq1.false some (needed-taken _ _ _ c.in_ok-data.ensures))
           ∙ c.loop.invariant.2),
