@@ -1,13 +1,13 @@
 -- The code's own forms: the last stage of a sweep, which filters rows and leaves them in the plane or finishes them into the samples. No definition
 -- of the format rests on them.
-use Rattle.std.specs.Prelude.{Bool, cond, is_some, List, ℕ, ◌+◌, ◌*◌, ℤ, pos}
+use Rattle.std.specs.Prelude.{◌≡◌, Bool, true, cond, is_some, List, ℕ, ◌+◌, ◌*◌, ℤ, pos}
 use Rattle.std.specs.Option.{unwrap_or}
 use Rattle.filters.specs.Passes.{Picture}
 use Rattle.filters.specs.declared.filter.LiftingFilter.{LiftingFilter}
 use Rattle.sweep.specs.declared.level.Level.{Level}
 use Rattle.sweep.specs.declared.rows.Crop.{Crop}
 use Rattle.sweep.specs.Pairs.{PairsPut}
-use Rattle.sweep.specs.Rows.{row_made, with_pair, with_row, with_rows, by_columns, by_rows}
+use Rattle.sweep.specs.Rows.{CropInside, row_made, with_pair, with_row, with_rows, by_columns, by_rows}
 
 -- Whether the rows of a level are finished into the samples, and then their sizes.
 abbrev pub finishes : Level → Bool
@@ -15,6 +15,10 @@ finishes level = is_some level.crop
 
 abbrev pub crop_of : Level → Crop
 crop_of level = unwrap_or level.crop (record { width = 0; height = 0 })
+
+-- Where the samples are made, they have room for what is kept of a row.
+abbrev pub RowRoom : Level → List ℤ → Type 0
+RowRoom level samples = finishes level ≡ true → CropInside (crop_of level) level.frame samples
 
 -- What is left in the plane of the rows of a level: zeros where they are finished into the samples, else what is made of them.
 abbrev pub rows_left : Level → LiftingFilter → List ℤ → Picture

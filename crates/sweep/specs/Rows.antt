@@ -1,6 +1,6 @@
 -- The code's own forms: the rows of a frame, which stand there as two halves, filtered and stored; and the same of a whole picture. No definition of
 -- the format rests on them.
-use Rattle.std.specs.Prelude.{Bool, cond, ◌&&◌, List, map, ℕ, ◌+◌, ◌*◌, ◌<◌, ltb, ℤ}
+use Rattle.std.specs.Prelude.{Bool, cond, ◌&&◌, List, map, ℕ, ◌+◌, ◌*◌, ◌≤◌, ◌<◌, ltb, ℤ, length}
 use Rattle.base.specs.Fill.{fill}
 use Rattle.lines.specs.Buffers.{shifted}
 use Rattle.lifting.specs.Layout.{FrameFits, half_index, halves_made, halves_fit, run_on, numbers_fit}
@@ -14,6 +14,10 @@ use Rattle.sweep.specs.declared.rows.Crop.{Crop}
 -- A row of a frame that lies in a plane.
 abbrev pub RowInside : Frame → ℕ → List ℤ → Type 0
 RowInside f row plane = FrameFits f plane × (row < 2 * f.band_rows)
+
+-- Samples that have room for the first rows and columns of a frame.
+abbrev pub CropInside : Crop → Frame → List ℤ → Type 0
+CropInside c f samples = (c.width ≤ 2 * f.band_columns) × (c.height * c.width ≤ length samples)
 
 -- What the rows of a filter, with its shift, make of row `row` of a frame, which stands there as two halves; and whether their new numbers fit.
 abbrev pub row_made : Frame → LiftingFilter → List ℤ → ℕ → Line

@@ -1,7 +1,7 @@
 -- `runs::read_some` meets its contract: either way it reads values as the contract says.
 use mathlib.Core.Path.{sym, ◌∙◌}
 use Rattle.runs.specs.Runs.{side_by_side}
-use Rattle.runs.proofs.RunsLaws.{side-index, side-inside, inside-sound, value-some}
+use Rattle.runs.proofs.RunsLaws.{inside-sound, value-some}
 use Rattle.runs.proofs.read_some.Goals as goal
 
 pub read_window-requires : goal.read_window-requires
@@ -10,9 +10,8 @@ read_window-requires c =
 
 pub read_value-requires : goal.read_value-requires
 read_value-requires c =
-    (side-inside _ _ _ c.requires.1 _ c.requires.0, inside-sound _ _ c.requires.2)
+    (c.requires.0, c.requires.1, inside-sound _ _ c.requires.2)
 
 pub returns : goal.returns
 returns c =
-    let reads = rw (← side-index c.args.n) at c.read_value.ensures.read in
-    record { read = reads; some = value-some _ _ _ (side_by_side c.args.n) _ _ _ _ c.requires.2 c.requires.0 reads c.read_value.ensures.one }
+    record { read = c.read_value.ensures.read; some = value-some _ _ _ (side_by_side c.args.placing.count) _ _ _ _ c.requires.2 c.requires.0 c.read_value.ensures.read c.read_value.ensures.some }

@@ -36,7 +36,9 @@ module _ (c : In-loop-k) where
   kept = pair-fits-kept c.args.level c.args.filter c.args.work.now c.args.from c.loop-k.k inside c.loop-k.work placed put
 
 pub filter_pair-requires : goal.filter_pair-requires
-filter_pair-requires c = (placed (goal.at.filter_pair-requires c).In-loop-k, c.requires.frame_fits.1, room (goal.at.filter_pair-requires c).In-loop-k, inside (goal.at.filter_pair-requires c).In-loop-k)
+filter_pair-requires c =
+    let at = (goal.at.filter_pair-requires c).In-loop-k in
+    (placed at, c.requires.frame_fits.1, λ finishes. ((room at finishes).0, (room at finishes).2), inside at)
 
 pub returns-in_err-filter_pair-clause-told : goal.returns-in_err-filter_pair-clause-told
 returns-in_err-filter_pair-clause-told c =

@@ -1,14 +1,14 @@
--- `coefficients::values::index_at` meets its contract: it computes the definition, and every part of the sum is at most the index.
+-- `coefficients::values::LayoutPlacing::index_at` meets its contract: it computes the definition, and every part of the sum is at most the index.
 use mathlib.Core.Path.{◌≡◌, refl}
 use Prim.Native.Nat.{ℕ, ◌+◌, ◌*◌, ◌/◌, ◌<◌, ◌^◌}
 use native.Mathlib.Nat.{mul-zero, zero-mul}
 use native.Mathlib.Omega.{arith}
 use Rattle.coefficients.specs.Values.{index_of}
-use Rattle.coefficients.proofs.values.index_at.Goals as goal
-use Rattle.coefficients.proofs.values.index_at.Goals.{Start}
+use Rattle.coefficients.proofs.values.LayoutPlacing.index_at.Goals as goal
+use Rattle.coefficients.proofs.values.LayoutPlacing.index_at.Goals.{Start}
 
 -- the whole index has room
-room : (c : Start) → c.args.layout.start + c.args.i + c.args.i * c.args.layout.reciprocal / 16777216 * c.args.layout.gap < 2 ^ 64
+room : (c : Start) → c.args.self.start + c.args.i + c.args.i * c.args.self.reciprocal / 16777216 * c.args.self.gap < 2 ^ 64
 unfolding index_of
 room c = c.requires.2
 
@@ -21,9 +21,9 @@ alone start i reciprocal gap none =
     let row-0 : i * reciprocal ≡ 0 = rw none (mul-zero i) in
     rw row-0 (omega (arith, zero-mul gap))
 
-pub returns-then-layout-eq0 : goal.returns-then-layout-eq0
+pub returns-then-self-eq0 : goal.returns-then-self-eq0
 unfolding index_of
-returns-then-layout-eq0 c = alone _ _ _ _ (omega (arith, c.if-layout-eq0.true))
+returns-then-self-eq0 c = alone _ _ _ _ (omega (arith, c.if-self-eq0.true))
 
 pub overflow_add-result-2 : goal.overflow_add-result-2
 overflow_add-result-2 c = omega (arith, room (goal.at.overflow_add-result-2 c).Start)
