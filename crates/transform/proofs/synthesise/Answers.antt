@@ -1,13 +1,9 @@
 -- `transform::synthesise` meets its contract: refused, overflowed or accepted, each way ends as the job's definition says.
 use mathlib.Core.Path.{◌≡◌, sym, ◌∙◌}
-use mathlib.Core.Logic.{◌≢◌}
-use native.Mathlib.Omega.{arith}
 use borrow.Author.Tests.{not-false}
 use Rattle.std.proofs.lemmas.Result.{err_from_is_err_and}
-use Rattle.base.specs.Refusals.{number_of}
-use Rattle.base.specs.declared.status.Refusal.{Refusal}
-use Rattle.base.specs.declared.status.Refusal.TheVariants.{Size, Depth, Wavelet, Codeblocks, Planes, BytesEndEarly, CodeTooLong, Quantiser, ValueOutOfRange, SynthesisOutOfRange, BytesLeftOver, Slices, LumaLength}
 use Rattle.base.proofs.ListsLaws.{zeros-length}
+use Rattle.base.proofs.RefusalsLaws.{refusal-some}
 use Rattle.component.specs.Checks.{refusal_of, lengths_of}
 use Rattle.component.specs.declared.parameters.Job.TheVariants.{Synthesise}
 use Rattle.component.proofs.ChecksLaws.{passed}
@@ -15,22 +11,6 @@ use Rattle.transform.specs.Job.{outcome, unchanged, overflowed, accepted}
 use Rattle.transform.proofs.JobLaws.{planes-fitted, job-refused, job-overflowed, job-accepted}
 use Rattle.transform.proofs.synthesise.Goals as goal
 use Rattle.transform.proofs.synthesise.Goals.{In_ok-check}
-
--- no refusal has the number 0
-refusal-some : (r : Refusal) → number_of r ≢ 0
-refusal-some Size e = omega (arith, e)
-refusal-some Depth e = omega (arith, e)
-refusal-some Wavelet e = omega (arith, e)
-refusal-some Codeblocks e = omega (arith, e)
-refusal-some Planes e = omega (arith, e)
-refusal-some BytesEndEarly e = omega (arith, e)
-refusal-some CodeTooLong e = omega (arith, e)
-refusal-some Quantiser e = omega (arith, e)
-refusal-some ValueOutOfRange e = omega (arith, e)
-refusal-some SynthesisOutOfRange e = omega (arith, e)
-refusal-some BytesLeftOver e = omega (arith, e)
-refusal-some Slices e = omega (arith, e)
-refusal-some LumaLength e = omega (arith, e)
 
 pub returns-in_err-check : goal.returns-in_err-check
 unfolding outcome unchanged
