@@ -6,7 +6,7 @@ use Rattle.component.specs.Subbands.{subband_count}
 use Rattle.component.specs.Reciprocal.{reciprocal_of}
 use Rattle.coefficients.specs.Quantiser.{dequantise}
 use Rattle.coefficients.specs.Scaling.{scale_of, small_fit, Small}
-use Rattle.coefficients.specs.declared.quantiser.Quantiser.{Quantiser}
+use Rattle.coefficients.specs.declared.reading.Quantiser.{Quantiser}
 use Rattle.slices.specs.Areas.{luma_grid, chroma_grid, subband_index}
 use Rattle.slices.specs.declared.parameters.Picture.{Picture}
 use Rattle.slices.specs.declared.parameters.Grid.{Grid}
