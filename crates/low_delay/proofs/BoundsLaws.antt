@@ -42,14 +42,14 @@ module _ (p : Picture) (bytes : List ℕ) (start index n luma : ℕ) (index_is :
     header-index out = rw (← n-is, ← luma-is, ← index_is, le-ltb _ _ inside, out)
 
     module _ (fit : indices_fit p index ≡ true) where
-      abbrev header : Header
-      header = record { index = index; from = 7 + n; middle = 7 + n + luma }
+      abbrev found : Header
+      found = record { index = index; from = 7 + n; middle = 7 + n + luma }
 
-      pub header_read : parts_of bytes start (Ok header) ≡ low_delay_parts p (length bytes) bytes start
+      pub header_read : parts_of bytes start (Ok found) ≡ low_delay_parts p (length bytes) bytes start
       unfolding low_delay_parts
       header_read = rw (← n-is, ← luma-is, ← index_is, le-ltb _ _ inside, fit)
 
-      pub header-sound : SoundParts p (length bytes) header
+      pub header-sound : SoundParts p (length bytes) found
       header-sound = record { forward = omega arith; inside = inside; indexed = indexed p index fit }
 
 -- three planes predicted one after the other, up to one with a value that does not fit

@@ -17,7 +17,8 @@ use slices::stores::ThreePlanes;
 pub fn finish(p: LowDelay, planes: &mut ThreePlanes<'_>) -> Result<usize, Refused>
     requires { Checked p.picture × SoundFraction p × Lengths p.picture planes.old.luma.now planes.old.first.now planes.old.second.now }
     ensures same { SamePlanes planes.old planes.new }
-    ensures ended { outcome (answer_of result) planes.new.luma.now planes.new.first.now planes.new.second.now ≡ finished p (planes_behind planes.old) }
+    ensures ended { outcome (answer_of result) planes.new.luma.now planes.new.first.now planes.new.second.now
+        ≡ finished p (planes_behind planes.old) }
 {
     let picture = p.picture;
     let count = slice_count(picture);

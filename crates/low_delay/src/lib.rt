@@ -54,11 +54,7 @@ pub fn unpack_low_delay(
 }
 
 // Reads the slices in raster order, and then predicts where the rules say so.
-fn read_slices(
-    p: LowDelay,
-    bytes: &[u8],
-    planes: &mut ThreePlanes<'_>,
-) -> Result<usize, Refused>
+fn read_slices(p: LowDelay, bytes: &[u8], planes: &mut ThreePlanes<'_>) -> Result<usize, Refused>
     requires { Checked p.picture × SoundFraction p × Lengths p.picture planes.old.luma.now planes.old.first.now planes.old.second.now }
     ensures same { SamePlanes planes.old planes.new }
     ensures ended { outcome (answer_of result) planes.new.luma.now planes.new.first.now planes.new.second.now

@@ -1,5 +1,4 @@
 -- `low_delay::finish::finish` meets its contract: the planes of an intra picture are predicted, and the answer is that of the definition.
-use Rattle.std.proofs.Common.{rules}
 use borrow.Author.Tests.{not-true, not-false}
 use Rattle.slices.specs.Stores.{planes_behind}
 use Rattle.low_delay.specs.Job.{outcome}
