@@ -9,10 +9,10 @@ use Rattle.slices.proofs.areas.Slice.area_at.Goals.{After-part_start_by-bottom, 
 -- the subband is small, and the slice's column and row are within the counts
 band : (c : After-subband_at-b) → (c.subband_at-b.result.width ≤ 4096) × (c.subband_at-b.result.height ≤ 4096)
 band c =
-    band-small c.args.self c.requires.0 c.requires.1 _ c.requires.2 _ c.subband_at-b.ensures
+    band-small c.args.self _ c.requires _ c.subband_at-b.ensures
 
 stands : (c : Start) → StandingRoom c.args.self
-stands c = standing-room _ c.requires.0 c.requires.1
+stands c = standing-room c.args.self
 
 pub part_start_by-left-requires : goal.part_start_by-left-requires
 part_start_by-left-requires c = ((band (goal.at.part_start_by-left-requires c).After-subband_at-b).0, (stands (goal.at.part_start_by-left-requires c).Start).across-small, omega (arith, (stands (goal.at.part_start_by-left-requires c).Start).column-most))
@@ -32,7 +32,7 @@ between : (c : After-part_start_by-bottom) →
     (record { stride = args.self.grid.width; subband = c.subband_at-b.result; across = args.self.grid.across; down = args.self.grid.down })
     c.part_start_by-left.result c.part_start_by-right.result c.part_start_by-top.result c.part_start_by-bottom.result
 between c =
-    area-room c.args.self c.requires.0 c.requires.1 _ c.requires.2 _ c.subband_at-b.ensures _ _ _ _
+    area-room c.args.self _ c.requires _ c.subband_at-b.ensures _ _ _ _
     c.part_start_by-left.ensures c.part_start_by-right.ensures
     c.part_start_by-top.ensures c.part_start_by-bottom.ensures
 
@@ -62,6 +62,6 @@ overflow_sub-result-2 c = (between (goal.at.overflow_sub-result-2 c).After-part_
 
 pub returns : goal.returns
 returns c =
-    area-is c.args.self c.requires.0 c.requires.1 _ c.requires.2 _ c.subband_at-b.ensures _ _ _ _
+    area-is c.args.self _ c.requires _ c.subband_at-b.ensures _ _ _ _
     c.part_start_by-left.ensures c.part_start_by-right.ensures
     c.part_start_by-top.ensures c.part_start_by-bottom.ensures
