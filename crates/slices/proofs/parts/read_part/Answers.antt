@@ -29,10 +29,7 @@ in-turn : (c : In-loop-k) → c.loop-k.k < subband_count c.args.part.picture.dep
 in-turn c = omega (arith, c.loop-k-test, c.subband_count-count.ensures)
 
 pub area_at-requires : goal.area_at-requires
-area_at-requires c =
-    let slice = c.new-slice.ensures in
-    let grid = c.grid_for.ensures in
-    (rw slice.0 grid.1, slice.2, rw (slice.0, grid.0) (grid-depth c.args.part.picture c.args.part.holder _ (in-turn (goal.at.area_at-requires c).In-loop-k)))
+area_at-requires c = rw (c.new-slice.ensures.0, c.grid_for.ensures.0) (grid-depth c.args.part.picture c.args.part.holder _ (in-turn (goal.at.area_at-requires c).In-loop-k))
 
 -- its rectangle is the slice's
 area-is : (c : After-area_at) → c.area_at.result ≡ slice_area (grid_for c.args.part.picture c.args.part.holder) c.args.part.slice c.loop-k.k
