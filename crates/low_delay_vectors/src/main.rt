@@ -9,6 +9,7 @@ ghost use Rattle.std.specs.Prelude.{◌≡◌, true, ◌≤◌, length};
 
 use crate::input::{HEADER_SIZE, Lengths, lengths_of, parameters_of};
 use crate::output::print_answer;
+use component::parameters::Answer;
 use low_delay::parameters::LowDelay;
 use low_delay::unpack_low_delay;
 use std::io;
@@ -69,10 +70,7 @@ fn run_next(rt: &impl Print, input: &mut impl Read, room: &mut Room) -> io::Resu
 fn has_room(n: Lengths) -> bool
     ensures { result ≡ true → (n.bytes ≤ 16384) × (n.luma ≤ 4096) × (n.first ≤ 4096) × (n.second ≤ 4096) }
 {
-    n.bytes <= BYTES_MOST
-        && n.luma <= PLANE_MOST
-        && n.first <= PLANE_MOST
-        && n.second <= PLANE_MOST
+    n.bytes <= BYTES_MOST && n.luma <= PLANE_MOST && n.first <= PLANE_MOST && n.second <= PLANE_MOST
 }
 
 // Reads the data of a job and runs it in planes of its lengths. Answers whether the input may have another.
@@ -117,8 +115,8 @@ fn unpack_and_print(
     luma.fill(7);
     first.fill(7);
     second.fill(7);
-    let answer = unpack_low_delay(p, bytes, luma, first, second);
-    print_answer(rt, p, bytes.len(), answer)?;
+    let outcome = unpack_low_delay(p, bytes, luma, first, second);
+    print_answer(rt, p, bytes.len(), Answer::from(outcome))?;
     print_row(&mut io::writer(rt), luma)?;
     print_row(&mut io::writer(rt), first)?;
     print_row(&mut io::writer(rt), second)
