@@ -20,8 +20,8 @@ pub read_slice-requires : goal.read_slice-requires
 read_slice-requires c =
     let inv = c.loop-k.invariant in
     record {
-      sound = (c.requires.0, c.requires.1, omega (arith, c.loop-k-test, c.slice_count-count.ensures.0));
-      planes = (lengths-same _ _ _ inv.1.1 c.requires.2, inv.3);
+      counted = omega (arith, c.loop-k-test, c.slice_count-count.ensures.0);
+      planes = (lengths-same _ _ _ inv.1.1 c.requires, inv.3);
       tables = c.new-tables.ensures;
     }
 
@@ -48,8 +48,7 @@ returns-in-Err-clause-ended c =
     ∙ sym c.loop-k.invariant.4 ∙ rw count refl
 
 pub finish-requires : goal.finish-requires
-finish-requires c =
-    (c.requires.0, c.requires.1, lengths-same _ _ _ c.loop-k.invariant.1.1 c.requires.2)
+finish-requires c = lengths-same _ _ _ c.loop-k.invariant.1.1 c.requires
 
 pub returns-clause-ended : goal.returns-clause-ended
 returns-clause-ended c =

@@ -21,10 +21,14 @@ returns-in_err-check c =
 none : (c : In_ok-check) → refusal_of c.args.p (planes_of c.args.luma.now c.args.first.now c.args.second.now) ≡ 0
 none c = sym (c.in_ok-check.ensures _ (record { luma_long = refl; first_long = refl; second_long = refl }))
 
+pub invariant_of-read_slices : goal.invariant_of-read_slices
+invariant_of-read_slices c =
+    let checks = passed _ _ (none (goal.at.invariant_of-read_slices c).In_ok-check) in
+    record { picture_checked = checks.picture; fraction_sound = checks.fraction }
+
 pub read_slices-requires : goal.read_slices-requires
 read_slices-requires c =
-    let checks = passed _ _ (none (goal.at.read_slices-requires c).In_ok-check) in
-    (checks.picture, checks.fraction, lengths-same _ _ _ c.zero_planes.ensures.same.1 checks.lengths)
+    lengths-same _ _ _ c.zero_planes.ensures.same.1 (passed _ _ (none (goal.at.read_slices-requires c).In_ok-check)).lengths
 
 pub returns : goal.returns
 returns c =
