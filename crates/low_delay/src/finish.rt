@@ -12,6 +12,7 @@ use component::parameters::Refused;
 use slices::stores::ThreePlanes;
 
 // Predicts the planes of an intra picture, and answers for the call. A predicted value that does not fit leaves zeros.
+#[tactic(auto, using(crate::proofs::JobLaws::zeros_same), unfolding(crate::specs::Job::outcome, crate::specs::Job::finished, crate::specs::Job::accepted, crate::specs::Job::predicted, crate::specs::Bounds::prediction_fits, crate::specs::Bounds::predicted_planes))]
 pub fn finish(p: CheckedLowDelay, planes: &mut ThreePlanes<'_>) -> Result<usize, Refused>
     requires { Lengths p.parameters.picture planes.old.luma.now planes.old.first.now planes.old.second.now }
     ensures same { SamePlanes planes.old planes.new }

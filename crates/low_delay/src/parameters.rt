@@ -25,6 +25,7 @@ pub struct CheckedLowDelay {
 
 impl CheckedLowDelay {
     // How many slices the picture has.
+    #[tactic(auto, using(crate::proofs::SlicesLaws::count_most), unfolding(slices::specs::Areas::slice_count))]
     pub fn slice_count(self) -> usize
         ensures { (result ≡ slice_count self.parameters.picture) × (1 ≤ result) × (result ≤ 65025) }
     {

@@ -28,6 +28,7 @@ pub struct TwoParts {
 }
 
 // Reads slice k, if its bytes are there. Goes on at the bit after it. After a refusal the planes and the run are free.
+#[tactic(auto, using(crate::proofs::SlicesLaws::count_most))]
 pub fn read_slice(
     planes: &mut ThreePlanes<'_>,
     p: CheckedLowDelay,

@@ -1,6 +1,6 @@
 -- `low_delay::slice::read_slice` meets its contract: a slice short of bytes is refused, and so is one that its header refuses.
 use mathlib.Core.Path.{◌≡◌, ◌∙◌}
-use Prim.Native.Nat.{suc, ◌-◌, ◌≤◌, ◌<◌}
+use Prim.Native.Nat.{suc, ◌-◌, ◌≤◌}
 use native.Mathlib.Numerals.{add-one}
 use native.Mathlib.Omega.{arith}
 use lib.ListN.{length, take, drop}
@@ -8,13 +8,9 @@ use Rattle.std.proofs.lemmas.Result.{err_from_is_err_and}
 use Rattle.slices.specs.Stores.{planes_behind}
 use Rattle.slices.proofs.ReadsLaws.{left-refused}
 use Rattle.low_delay.specs.Slices.{slice_start, slice_size}
-use Rattle.low_delay.proofs.SlicesLaws.{count_most, size_is, size-most, size-least, start-grows, own-length, slice-short, slice-refused, slice-read}
+use Rattle.low_delay.proofs.SlicesLaws.{size_is, size-most, size-least, start-grows, own-length, slice-short, slice-refused, slice-read}
 use Rattle.low_delay.proofs.slice.read_slice.Goals as goal
-use Rattle.low_delay.proofs.slice.read_slice.Goals.{After-slice_start-next, Else-bytes-next, Start}
-
--- there are no more than 65025 slices
-slices-few : (c : Start) → c.args.k < 65025
-slices-few c = omega (arith, c.requires.counted, count_most _ c.args.p.picture_checked)
+use Rattle.low_delay.proofs.slice.read_slice.Goals.{After-slice_start-next, Else-bytes-next}
 
 -- where it starts and ends, and that its bytes are there
 starts : (c : After-slice_start-next) → c.slice_start-start.result ≡ slice_start c.args.p.parameters c.args.k
@@ -39,15 +35,6 @@ own_is c =
     own-length _ c.args.bytes.now _ _ _ starts ends (planes_behind c.args.planes.now) (omega (arith, c.if-bytes-next.false))
     ∙ size_is _ _ _ _ starts ends
 
-pub slice_start-start-requires : goal.slice_start-start-requires
-slice_start-start-requires c = omega (arith, slices-few (goal.at.slice_start-start-requires c).Start)
-
-pub overflow_add-k : goal.overflow_add-k
-overflow_add-k c = omega (arith, slices-few (goal.at.overflow_add-k c).Start)
-
-pub slice_start-next-requires : goal.slice_start-next-requires
-slice_start-next-requires c = omega (arith, slices-few (goal.at.slice_start-next-requires c).Start)
-
 pub returns-then-bytes-next-clause-read : goal.returns-then-bytes-next-clause-read
 returns-then-bytes-next-clause-read c = left-refused _ _ _ _ _ _ (slice-short _ _ _ _ _ (starts (goal.at.returns-then-bytes-next-clause-read c).After-slice_start-next) (ends (goal.at.returns-then-bytes-next-clause-read c).After-slice_start-next) _ c.if-bytes-next.true)
 
@@ -64,14 +51,6 @@ read_header-requires c =
     let p = c.args.p.parameters in
     let k = c.args.k in
     (c.args.p.picture_checked, omega (arith, own, size-least p sound.denominator_least sound.denominator_most k), omega (arith, own, size-most p sound.denominator_least k, sound.numerator_most), omega (arith, c.slice_start-start.ensures.1))
-
-pub read_parts-requires : goal.read_parts-requires
-read_parts-requires c =
-    record {
-      sound = (c.args.p.picture_checked, c.requires.counted, omega (arith, c.slice_start-start.ensures.1, own_is (goal.at.read_parts-requires c).Else-bytes-next, size-most c.args.p.parameters c.args.p.fraction_sound.denominator_least c.args.k, c.args.p.fraction_sound.numerator_most), c.in_ok-header.ensures.sound_header);
-      planes = c.requires.planes;
-      tables = c.requires.tables;
-    }
 
 pub returns-in_err-header-clause-read : goal.returns-in_err-header-clause-read
 returns-in_err-header-clause-read c =
