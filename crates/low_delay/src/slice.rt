@@ -27,6 +27,25 @@ pub struct TwoParts {
     pub header: Header,
 }
 
+impl TwoParts {
+    // The part of luma, or of C1 and C2, from a bit to a bit of the slice's bytes.
+    fn part_of(self, holder: Holder, bit: usize, end: usize) -> SlicePart
+        ensures { result ≡ part_of self holder bit end }
+    {
+        SlicePart {
+            picture: self.picture,
+            slice: self.number,
+            holder,
+            index: self.header.index,
+            span: Span {
+                bit,
+                end,
+                origin: self.start,
+            },
+        }
+    }
+}
+
 // Reads slice k, if its bytes are there. Goes on at the bit after it. After a refusal the planes and the run are free.
 #[tactic(auto, using(crate::proofs::SlicesLaws::count_most))]
 pub fn read_slice(
@@ -83,26 +102,9 @@ fn read_parts(
 {
     let end = 8 * bytes.len();
     let middle = parts.header.middle;
-    let luma = part_of(parts, Holder::Luma, parts.header.from, middle);
+    let luma = parts.part_of(Holder::Luma, parts.header.from, middle);
     read_part(planes, luma, bytes, run, tables)?;
-    let both = part_of(parts, Holder::Both, middle, end);
+    let both = parts.part_of(Holder::Both, middle, end);
     read_part(planes, both, bytes, run, tables)?;
     Ok(parts.start + end)
-}
-
-// A part of a slice, from a bit to a bit of its bytes.
-fn part_of(parts: TwoParts, holder: Holder, bit: usize, end: usize) -> SlicePart
-    ensures { result ≡ part_of parts holder bit end }
-{
-    SlicePart {
-        picture: parts.picture,
-        slice: parts.number,
-        holder,
-        index: parts.header.index,
-        span: Span {
-            bit,
-            end,
-            origin: parts.start,
-        },
-    }
 }
