@@ -9,6 +9,7 @@ ghost use Rattle.coefficients.specs.Scaling.{scale_of, small_fit, Small};
 ghost use Rattle.coefficients.specs.Values.{after, index_of, Ready};
 ghost use Rattle.coefficients.specs.Portions.{Sound, not_read, Reads, AllRead};
 ghost use Rattle.coefficients.specs.Batches.{ReadsWithin};
+ghost use Rattle.coefficients.specs.declared.values.Layout.{Layout};
 
 use crate::quantiser::{dequantised, small_fit};
 use crate::reading::{Cursor, Portion, Quantiser};
@@ -24,6 +25,36 @@ pub struct Layout {
     pub count: usize,
     pub reciprocal: usize,
     pub gap: usize,
+}
+
+// How the entries of a layout are found. What reads values is compiled anew for each type of placing, so that each reader has a copy of its own.
+pub trait Placing: Copy {
+    ghost layout: { Self → Layout };
+
+    // How many values there are.
+    fn count(self) -> usize
+        ensures { result ≡ (layout self).count };
+
+    // The entry that value i goes to.
+    fn index_at(self, i: usize) -> usize
+        requires { (i ≤ 16777216) × ((layout self).reciprocal ≤ 16777217) × (index_of (layout self) i < 2 ^ 64) }
+        ensures { result ≡ index_of (layout self) i };
+}
+
+impl Placing for Layout {
+    ghost layout = { λ l. l };
+
+    fn count(self) -> usize {
+        self.count
+    }
+
+    // A single row needs no multiplication.
+    fn index_at(self, i: usize) -> usize {
+        if self.reciprocal == 0 {
+            return self.start + i;
+        }
+        self.start + i + (i * self.reciprocal / 16777216) * self.gap
+    }
 }
 
 // What values are decoded by: a quantiser, a table of codes, and the small values, which are known where all of them fit.
@@ -149,6 +180,21 @@ fn read_batch(
     if left <= 4 {
         return read_codes(plane, layout, from, window, decoder);
     }
+    read_few(plane, layout, from, window, decoder)
+}
+
+// Reads values by the bits of a window: all that are left, or 32, at once where they are zeros; others by lookups.
+pub fn read_few<P: Placing>(
+    plane: &mut [i32],
+    placing: P,
+    from: usize,
+    window: u64,
+    decoder: Decoder,
+) -> Batch
+    requires { (from < (P.layout placing).count) × Ready (P.layout placing) from plane.old }
+    ensures { ReadsWithin window decoder.entry.small.now (P.layout placing) from plane.old result plane.new }
+{
+    let left = placing.count() - from;
     if left < 32 {
         if starts_with_ones(window, left) {
             return Batch {
@@ -162,7 +208,7 @@ fn read_batch(
             bits: 32,
         };
     }
-    read_lookups(plane, layout, from, window, decoder)
+    read_lookups(plane, placing, from, window, decoder)
 }
 
 // Reads values by the bits of a window where 63 or more are left: 32 at once where they are zeros; others by at most seven lookups, none of which
@@ -188,7 +234,7 @@ fn read_many(plane: &mut [i32], layout: Layout, from: usize, window: u64, decode
                 bits,
             };
         }
-        let index = index_at(layout, i + next.zeros);
+        let index = layout.index_at(i + next.zeros);
         plane[index] = decoder.small[next.value];
         w <<= next.bits;
         i += next.count;
@@ -222,7 +268,7 @@ fn read_codes(
                 bits,
             };
         }
-        let index = index_at(layout, i);
+        let index = layout.index_at(i);
         plane[index] = decoder.small[lookup.first_value()];
         w <<= taken;
         bits += taken;
@@ -234,26 +280,27 @@ fn read_codes(
 }
 
 // Reads values by at most seven lookups. Of zeros that pass the layout's end only those before it are taken.
-fn read_lookups(
+fn read_lookups<P: Placing>(
     plane: &mut [i32],
-    layout: Layout,
+    placing: P,
     from: usize,
     window: u64,
     decoder: Decoder,
 ) -> Batch
-    requires { Ready layout from plane.old }
-    ensures { ReadsWithin window decoder.entry.small.now layout from plane.old result plane.new }
+    requires { Ready (P.layout placing) from plane.old }
+    ensures { ReadsWithin window decoder.entry.small.now (P.layout placing) from plane.old result plane.new }
 {
+    let count = placing.count();
     let mut w = window;
     let mut i = from;
     let mut bits = 0;
     for _ in 0..7usize {
         let lookup = decoder.table.look_up(w);
         let to = i + lookup.zeros;
-        if layout.count <= to {
+        if count <= to {
             return Batch {
-                count: layout.count - from,
-                bits: bits + (layout.count - i),
+                count: count - from,
+                bits: bits + (count - i),
             };
         }
         if lookup.bits == 0 {
@@ -262,7 +309,7 @@ fn read_lookups(
                 bits,
             };
         }
-        let index = index_at(layout, to);
+        let index = placing.index_at(to);
         plane[index] = decoder.small[lookup.value];
         w <<= lookup.bits;
         i += lookup.count;
@@ -274,33 +321,22 @@ fn read_lookups(
     }
 }
 
-// The entry that value i goes to. A single row needs no multiplication.
-fn index_at(layout: Layout, i: usize) -> usize
-    requires { (i ≤ 16777216) × (layout.reciprocal ≤ 16777217) × (index_of layout i < 2 ^ 64) }
-    ensures { result ≡ index_of layout i }
-{
-    if layout.reciprocal == 0 {
-        return layout.start + i;
-    }
-    layout.start + i + (i * layout.reciprocal / 16777216) * layout.gap
-}
-
 // Reads value i, if it is all there.
-fn read_value(
+pub fn read_value<P: Placing>(
     plane: &mut [i32],
-    layout: Layout,
+    placing: P,
     i: usize,
     bytes: &[u8],
     cursor: Cursor,
     q: Quantiser,
 ) -> Portion
-    requires { (i < layout.count) × Ready layout i plane.old × Sound cursor }
-    ensures read { Reads bytes.now cursor (scale_of q) (index_of layout) i plane.old result plane.new }
+    requires { (i < (P.layout placing).count) × Ready (P.layout placing) i plane.old × Sound cursor }
+    ensures read { Reads bytes.now cursor (scale_of q) (index_of (P.layout placing)) i plane.old result plane.new }
     ensures some { (result.count ≤ 1) × (result.short ≡ false → 1 ≤ result.count) }
 {
     match read_signed(bytes, cursor.end, cursor.stated, cursor.bit) {
         Ok(number) => {
-            let index = index_at(layout, i);
+            let index = placing.index_at(i);
             Portion {
                 count: 1,
                 progress: store_value(plane, index, number, q, cursor.origin),

@@ -182,9 +182,6 @@ pub side-index : (n : ℕ) → index_of (side_by_side n) ≡ (λ k. k)
 unfolding index_of
 side-index n = fun_ext (λ k. let row : k * 0 / 16777216 * 0 ≡ 0 = omega arith in omega arith)
 
-pub side-inside : (n from : ℕ) (run : List ℤ) → Ready (side_by_side n) from run → (k : ℕ) → k < n → k < length run
-side-inside n from run ready k below = rw (side-index n) at (ready.inside k below)
-
 pub side-ready : (n i : ℕ) (run₀ run : List ℤ) → Fresh n run₀ → length run ≡ length run₀ → i ≤ n → ((k : ℕ) → i ≤ k → k < n → get_or run k (pos 0) ≡ pos 0) →
     Ready (side_by_side n) i run
 side-ready n i run₀ run fresh same most clear =

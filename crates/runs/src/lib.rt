@@ -2,22 +2,19 @@
 // many at once up to the last of them.
 #![tactic(auto)]
 
-ghost use Rattle.std.specs.Prelude.{◌≡◌, true, false, ◌+◌, ◌≤◌, ◌<◌, min, length};
+ghost use Rattle.std.specs.Prelude.{◌≡◌, true, false, ◌+◌, ◌≤◌, ◌<◌, min};
 ghost use Rattle.coefficients.specs.Reading.{goes_on};
 ghost use Rattle.coefficients.specs.Scaling.{scale_of, small_fit};
 ghost use Rattle.coefficients.specs.Values.{after, index_of, entries, Ready};
-ghost use Rattle.coefficients.specs.Portions.{Sound, Reads};
+ghost use Rattle.coefficients.specs.Portions.{Reads};
 ghost use Rattle.runs.specs.Runs.{side_by_side, Fresh, SoundSpan, Inside, BeforeEnd};
 
-mod batches;
 mod padded;
 
 use base::status::Fault;
-use batches::read_batch;
 use coefficients::quantiser::small_fit;
-use coefficients::reading::{Cursor, Portion, Quantiser};
-use coefficients::values::{Decoder, not_read, store_value};
-use exp_golomb::codes::read_signed;
+use coefficients::reading::{Cursor, Portion};
+use coefficients::values::{Decoder, Placing, read_few, read_value};
 use padded::padded_window;
 
 // Where a part of data stands: its next bit, the bit at which it ends, and the bit of all the bytes that its first bit is. Past its end bits
@@ -27,6 +24,24 @@ pub struct Span {
     pub bit: usize,
     pub end: usize,
     pub origin: usize,
+}
+
+// Places side by side: value i goes to entry i.
+#[derive(Clone, Copy)]
+struct SideBySide {
+    count: usize,
+}
+
+impl Placing for SideBySide {
+    ghost layout = { λ s. side_by_side s.count };
+
+    fn count(self) -> usize {
+        self.count
+    }
+
+    fn index_at(self, i: usize) -> usize {
+        i
+    }
 }
 
 // Reads n values, dequantised, into the first n entries of a run, which hold zeros: all, or up to one that is refused. Answers the bit after them.
@@ -44,8 +59,9 @@ pub fn read_run(
 {
     // The bit at which the data end: the span's, or where the bytes do.
     let end = span.end.min(bytes.len().saturating_mul(8));
+    let placing = SideBySide { count: n };
     let mut bit = span.bit;
-    let mut i: usize = 0;
+    let mut i = 0;
     while i < n {
         // The values that are left are zeros.
         if end <= bit {
@@ -57,70 +73,36 @@ pub fn read_run(
             stated: true,
             origin: span.origin,
         };
-        let part = read_some(run, n, i, bytes, cursor, decoder);
+        let part = read_some(run, placing, i, bytes, cursor, decoder);
         i += part.count;
         bit = part.progress?;
     }
     Ok(bit)
 }
 
-// Reads a value or more: many at once where small values fit.
+// Reads a value or more: many at once where small values fit, by the next bits, with ones for those past the end; one value where none ends in them.
 fn read_some(
     run: &mut [i32],
-    n: usize,
+    placing: SideBySide,
     i: usize,
     bytes: &[u8],
     cursor: Cursor,
     decoder: Decoder,
 ) -> Portion
-    requires { (i < n) × Ready (side_by_side n) i run.old × Inside bytes.now cursor }
-    ensures read { Reads bytes.now cursor (scale_of decoder.entry.q) (index_of (side_by_side n)) i run.old result run.new }
-    ensures some { (1 ≤ result.count) × (i + result.count ≤ n) }
+    requires { (i < placing.count) × Ready (side_by_side placing.count) i run.old × Inside bytes.now cursor }
+    ensures read { Reads bytes.now cursor (scale_of decoder.entry.q) (index_of (side_by_side placing.count)) i run.old result run.new }
+    ensures some { (1 ≤ result.count) × (i + result.count ≤ placing.count) }
 {
     if small_fit(decoder.q) {
-        return read_window(run, n, i, bytes, cursor, decoder);
+        let w = padded_window(bytes, cursor.end, cursor.bit);
+        let batch = read_few(run, placing, i, w, decoder);
+        if batch.count != 0 {
+            return Portion {
+                count: batch.count,
+                progress: Ok(cursor.end.min(cursor.bit + batch.bits)),
+                short: false,
+            };
+        }
     }
-    read_value(run, i, bytes, cursor, decoder.q)
-}
-
-// Reads values by the next bits, with ones for those past the end, or one value where none ends in them.
-fn read_window(
-    run: &mut [i32],
-    n: usize,
-    i: usize,
-    bytes: &[u8],
-    cursor: Cursor,
-    decoder: Decoder,
-) -> Portion
-    requires ready { (i < n) × Ready (side_by_side n) i run.old × Inside bytes.now cursor }
-    requires fit { small_fit decoder.q ≡ true }
-    ensures read { Reads bytes.now cursor (scale_of decoder.entry.q) (index_of (side_by_side n)) i run.old result run.new }
-    ensures some { (1 ≤ result.count) × (i + result.count ≤ n) }
-{
-    let w = padded_window(bytes, cursor.end, cursor.bit);
-    let batch = read_batch(run, n, i, w, decoder);
-    if batch.count == 0 {
-        return read_value(run, i, bytes, cursor, decoder.q);
-    }
-    Portion {
-        count: batch.count,
-        progress: Ok(cursor.end.min(cursor.bit + batch.bits)),
-        short: false,
-    }
-}
-
-// Reads value i.
-fn read_value(run: &mut [i32], i: usize, bytes: &[u8], cursor: Cursor, q: Quantiser) -> Portion
-    requires { (i < length run.old) × Sound cursor }
-    ensures read { Reads bytes.now cursor (scale_of q) (λ k. k) i run.old result run.new }
-    ensures one { (result.count ≤ 1) × (result.short ≡ false → 1 ≤ result.count) }
-{
-    match read_signed(bytes, cursor.end, cursor.stated, cursor.bit) {
-        Ok(number) => Portion {
-            count: 1,
-            progress: store_value(run, i, number, q, cursor.origin),
-            short: false,
-        },
-        Err(fault) => not_read(fault, cursor),
-    }
+    read_value(run, placing, i, bytes, cursor, decoder.q)
 }

@@ -6,8 +6,7 @@ use Rattle.component.specs.Subbands.{subband_count, InSubband}
 use Rattle.component.specs.declared.parameters.Parameters.{Parameters}
 use Rattle.codeblocks.specs.declared.CodeblockGrid.{CodeblockGrid}
 use Rattle.unpack.specs.Subband.{codeblocks_of}
-use Rattle.unpack.specs.declared.header.Header.{Header}
-use Rattle.unpack.specs.declared.header.Header.TheVariants.{Skipped, Coded, Refused}
+use Rattle.unpack.specs.Header.{Header, Skipped, Coded, Refused}
 
 -- The parameters of a component that has passed the checks of unpack.
 pub record Checked (p : Parameters) : Type 0 where

@@ -3,7 +3,8 @@ ghost use Rattle.std.specs.Prelude.{◌+◌, ◌≤◌, length};
 
 use exp_golomb::codes::{Number, read_unsigned, status};
 use std::io;
-use vector_io::{end_line, put_named};
+use text::TextBuffer;
+use vector_io::{LINE_ROOM, put_named};
 
 // Reads codes of 31 data bits, of 32, and of 31 with nothing after them.
 pub(crate) fn read_longest_codes(rt: &impl Print) -> io::Result<()> {
@@ -53,18 +54,18 @@ fn read_and_print(
     stated: bool,
 ) -> io::Result<()> {
     let number = read_unsigned(bytes, end, stated, 0);
-    let mut line = [0u8; 4096];
-    let after = put_named(&mut line, 0, b": status ", status(number) as u64);
-    let last = put_next(&mut line, after, number);
-    let count = end_line(&mut line, last);
+    let mut line = TextBuffer::<LINE_ROOM>::new();
+    put_named(&mut line, b": status ", u64::from(status(number)));
+    put_next(&mut line, number);
+    line.put_word(b"\n");
     rt.write_all(case)?;
-    rt.write_all(&line[..count])
+    rt.write_all(line.as_bytes())
 }
 
 // Puts the bit after those taken, and the number that was read.
-fn put_next(text: &mut [u8], at: usize, number: Number) -> usize
-    requires { at + 52 ≤ length text.old }
-    ensures { result ≤ at + 52 }
+fn put_next(text: &mut TextBuffer<LINE_ROOM>, number: Number)
+    requires { length text.old + 52 ≤ 4096 }
+    ensures { length text.new ≤ length text.old + 52 }
 {
     match number {
         Number::Read {
@@ -72,10 +73,10 @@ fn put_next(text: &mut [u8], at: usize, number: Number) -> usize
             minus: _,
             next,
         } => {
-            let after = put_named(text, at, b" next bit ", next as u64);
-            put_named(text, after, b": ", size as u64)
+            put_named(text, b" next bit ", next as u64);
+            put_named(text, b": ", u64::from(size));
         }
-        Number::Missing { next } => put_named(text, at, b" next bit ", next as u64),
-        Number::TooLong { next } => put_named(text, at, b" next bit ", next as u64),
+        Number::Missing { next } => put_named(text, b" next bit ", next as u64),
+        Number::TooLong { next } => put_named(text, b" next bit ", next as u64),
     }
 }

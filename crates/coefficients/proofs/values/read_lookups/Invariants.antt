@@ -5,4 +5,6 @@ use Rattle.coefficients.proofs.BatchesLaws.{Taken}
 use Rattle.coefficients.proofs.values.read_lookups.Given as goal
 
 abbrev pub invariant-loop : goal.invariant-loop
-invariant-loop l = (l.counter ≤ 7) × (l.bits ≤ 8 * l.counter) × (l.i ≤ l.layout.count) × Taken l.window l.decoder.small.now l.layout l.from l.initial.plane l.w l.i l.bits l.plane
+invariant-loop g l =
+    let layout = g.P.Placing.layout l.placing in
+    (l.counter ≤ 7) × (l.bits ≤ 8 * l.counter) × (l.i ≤ layout.count) × Taken l.window l.decoder.small.now layout l.from l.initial.plane l.w l.i l.bits l.plane
