@@ -2,11 +2,12 @@
 use mathlib.Core.Path.{◌≡◌, refl, sym, ◌∙◌}
 use Rattle.std.proofs.Common.{rules}
 use Rattle.std.proofs.lemmas.Result.{err_from_is_err_and}
+use Rattle.base.proofs.RefusalsLaws.{refusal-some}
 use Rattle.slices.specs.Planes.{planes_of}
 use Rattle.slices.proofs.PartsLaws.{lengths-same}
 use Rattle.low_delay.specs.Job.{outcome, refusal_of, unpacked}
 use Rattle.component.specs.Answers.{answer_of}
-use Rattle.low_delay.proofs.JobLaws.{passed, refusal-some, job-refused, job_read}
+use Rattle.low_delay.proofs.JobLaws.{passed, job-refused, job_read}
 use Rattle.low_delay.proofs.unpack_low_delay.Goals as goal
 use Rattle.low_delay.proofs.unpack_low_delay.Goals.{In_ok-check}
 
