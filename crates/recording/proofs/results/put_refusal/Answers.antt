@@ -7,5 +7,5 @@ use Rattle.recording.proofs.results.put_refusal.Goals as goal
 pub returns : goal.returns
 unfolding refusal_text ascii
 returns c =
-    rw (c.put_word-3.ensures, c.put_decimal-2.ensures.put, c.put_word-2.ensures, c.put_decimal.ensures.put, c.from.ensures, c.put_word.ensures)
+    rw (c.put_word-3.ensures, c.put_decimal-2.ensures.put, c.put_word-2.ensures, c.put_decimal.ensures.put, c.from.ensures, c.number.ensures, c.put_word.ensures)
     (simp append_assoc)
