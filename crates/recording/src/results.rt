@@ -28,6 +28,7 @@ pub fn put_entry(
 }
 
 // Puts how the first line of entry k starts.
+#[tactic(auto, unfolding(crate::specs::Output::heading, text::specs::Text::ascii))]
 fn put_heading(text: &mut TextBuffer<TEXT_ROOM>, k: usize)
     requires { length text.old + 28 ≤ 204800 }
     ensures put { text.new ≡ text.old ++ heading k }
@@ -39,6 +40,7 @@ fn put_heading(text: &mut TextBuffer<TEXT_ROOM>, k: usize)
 }
 
 // Puts the rest of the line of a refused entry.
+#[tactic(auto, unfolding(crate::specs::Output::refusal_text, text::specs::Text::ascii))]
 fn put_refusal(text: &mut TextBuffer<TEXT_ROOM>, refused: Refused)
     requires { length text.old + 56 ≤ 204800 }
     ensures { text.new ≡ text.old ++ refusal_text (number_of refused.refusal) refused.place }
@@ -51,6 +53,7 @@ fn put_refusal(text: &mut TextBuffer<TEXT_ROOM>, refused: Refused)
 }
 
 // Puts the sizes of an accepted entry, which end its first line.
+#[tactic(auto, unfolding(crate::specs::Output::size_text, text::specs::Text::ascii))]
 fn put_size(text: &mut TextBuffer<TEXT_ROOM>, p: Parameters)
     requires { length text.old + 44 ≤ 204800 }
     ensures put { text.new ≡ text.old ++ size_text p }
@@ -63,6 +66,7 @@ fn put_size(text: &mut TextBuffer<TEXT_ROOM>, p: Parameters)
 }
 
 // Puts the rest of the lines of an accepted entry.
+#[tactic(auto, unfolding(crate::specs::Output::picture_text))]
 fn put_picture(text: &mut TextBuffer<TEXT_ROOM>, p: Parameters, samples: &[i32])
     requires samples_len { length samples.now ≡ p.width * p.height }
     requires height_in_bounds { length text.old + 12 * (p.width * p.height) + p.height + 65 ≤ 204800 }

@@ -6,16 +6,12 @@ use Rattle.decode.specs.Job.{DecodeResult, outcome}
 use Rattle.recording.proofs.OutputLaws.{samples-fit, entry-accepted, lines_of}
 use Rattle.recording.proofs.decoded_text.Goals as goal
 
-pub put_entry-requires : goal.put_entry-requires
+pub put_entry-requires-clause-samples_len : goal.put_entry-requires-clause-samples_len
 unfolding outcome
-put_entry-requires c =
-    record {
-      no_text = c.requires.no_text;
-      samples_len = λ fine.
-          let decoded = entry-accepted _ _ _ (sym c.entry_result.ensures.status ∙ fine) in
-          let fit = samples-fit _ _ _ _ _ c.requires.coefficients_len.0 (sym (ap (λ (d : DecodeResult). d.status) c.decode-decoded.ensures) ∙ decoded) in
-          (c.decode-decoded.auto.samples ∙ fit.0, fit.1, fit.2);
-    }
+put_entry-requires-clause-samples_len c fine =
+    let decoded = entry-accepted _ _ _ (sym c.entry_result.ensures.status ∙ fine) in
+    let fit = samples-fit _ _ _ _ _ c.requires.coefficients_len.0 (sym (ap (λ (d : DecodeResult). d.status) c.decode-decoded.ensures) ∙ decoded) in
+    (c.decode-decoded.auto.samples ∙ fit.0, fit.1, fit.2)
 
 pub returns : goal.returns
 returns c =
