@@ -29,6 +29,7 @@ pub const AREA_MOST: usize = 16384;
 pub const TEXT_ROOM: usize = 204800;
 
 // How many parts the output of a file with so many entries has: one for each entry, or one that says that the table is wrong.
+#[tactic(auto, using(crate::proofs::PartsLaws::parts_of))]
 pub fn part_count(entries: Option<usize>) -> usize
     ensures { (n : ℕ) → entries ≡ nonzero n → result ≡ part_count n }
 {
@@ -37,6 +38,7 @@ pub fn part_count(entries: Option<usize>) -> usize
 
 // Puts part k of what a file with so many entries decodes to into the text, in place of what stood there. The planes may hold anything
 // before and after.
+#[tactic(auto, unfolding(crate::specs::Parts::part, crate::specs::Parts::part_count, contents::specs::Counts::nonzero, text::specs::Text::ascii))]
 pub fn output_part(
     file: &[u8],
     entries: Option<usize>,
@@ -108,6 +110,7 @@ fn decoded_text(
 
 // Document 02, "Left-over bytes are a fault": what an entry whose body has so many bytes comes to, from what decode answered. It is refused
 // where bytes of an accepted one are left over, and the place is decode's.
+#[tactic(auto, unfolding(crate::specs::Output::entry_status))]
 fn entry_result(decoded: Result<usize, Refused>, size: usize) -> Result<usize, Refused>
     ensures status { (answer_of result).status ≡ entry_status (answer_of decoded).status (answer_of decoded).place size }
     ensures place { (answer_of result).place ≡ (answer_of decoded).place }

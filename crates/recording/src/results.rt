@@ -9,6 +9,7 @@ use component::parameters::{Parameters, Refused};
 use text::TextBuffer;
 
 // Puts the lines of entry k into a text with nothing in it: its samples, or its refusal.
+#[tactic(auto, unfolding(crate::specs::Output::entry_lines))]
 pub fn put_entry(
     text: &mut TextBuffer<TEXT_ROOM>,
     k: usize,
