@@ -11,14 +11,16 @@ use lib.Dec.{leb, eqb}
 use lib.IntN.{ℤ}
 use lib.ListN.{length}
 use borrow.Author.Tests.{leb-true, eqb-true, ne_eqb}
+use Rattle.base.specs.Refusals.{number_of}
+use Rattle.base.specs.declared.status.Refusal.{Refusal}
+use Rattle.base.specs.declared.status.Refusal.TheVariants.{Size, Depth, Wavelet, Codeblocks, Planes as PlanesRefused, BytesEndEarly, CodeTooLong, Quantiser, ValueOutOfRange, SynthesisOutOfRange, BytesLeftOver, Slices, LumaLength}
 use Rattle.base.proofs.Booleans.{and_left, and_right}
 use Rattle.base.proofs.ListsLaws.{zeros-length}
 use Rattle.component.specs.Checks.{in_range}
 use Rattle.component.specs.Subbands.{subband_at}
 use Rattle.component.specs.declared.subbands.Subband.{Subband}
 use Rattle.component.proofs.ChecksLaws.{range-least, range-most}
-use Rattle.coefficients.specs.Reading.{goes_on}
-use Rattle.coefficients.specs.declared.reading.Progress.TheVariants.{Refused}
+use Rattle.coefficients.specs.Reading.{Refused, goes_on}
 use Rattle.slices.specs.Planes.{Planes, zeros}
 use Rattle.slices.specs.Areas.{luma_grid, chroma_grid, band_slices, slice_count}
 use Rattle.slices.specs.Bounds.{Checked, Lengths, Whole}
@@ -100,30 +102,6 @@ pub record ChecksPassed (p : LowDelay) (planes : Planes) : Type 0 where
   pub lengths : Lengths p.picture planes.luma planes.first planes.second
 
 module _ (p : LowDelay) (planes : Planes) where
-  -- each refusal, from the checks before it and its own
-  pub refused-1 : sizes_in_range p.picture ≡ false → 1 ≡ refusal_of p planes
-  unfolding refusal_of
-  refused-1 sizes = rw sizes
-
-  module _ (sizes : sizes_in_range p.picture ≡ true) where
-    pub refused-2 : in_range 0 4 p.picture.depth ≡ false → 2 ≡ refusal_of p planes
-    unfolding refusal_of
-    refused-2 depth = rw (sizes, depth)
-
-    module _ (depth : in_range 0 4 p.picture.depth ≡ true) where
-      pub refused-13 : slices_in_range p ≡ false → 13 ≡ refusal_of p planes
-      unfolding refusal_of
-      refused-13 slices = rw (sizes, depth, slices)
-
-      module _ (slices : slices_in_range p ≡ true) where
-        pub refused-5 : planes_fit p.picture planes ≡ false → 5 ≡ refusal_of p planes
-        unfolding refusal_of
-        refused-5 fit = rw (sizes, depth, slices, fit)
-
-        pub refused_none : planes_fit p.picture planes ≡ true → 0 ≡ refusal_of p planes
-        unfolding refusal_of
-        refused_none fit = rw (sizes, depth, slices, fit)
-
   -- no refusal: every check passed
   pub passed : refusal_of p planes ≡ 0 → ChecksPassed p planes
   unfolding refusal_of
@@ -163,16 +141,15 @@ module _ (p : LowDelay) (planes : Planes) where
     unfolding finished
     finished-predicted = first-chosen p.picture.intra (predicted p planes) (accepted p planes) intra
 
-    module _ (fits : Bool) (told : fits ≡ prediction_fits p.picture planes) where
-      pub finished-intra : fits ≡ true → result 0 (slice_start p (slice_count p.picture)) (predicted_planes p.picture planes) ≡ finished p planes
-      unfolding predicted accepted prediction_fits predicted_planes
-      finished-intra all =
-          first-chosen (prediction_fits p.picture planes) (accepted p (predicted_planes p.picture planes)) _ (sym told ∙ all) ∙ finished-predicted
+    pub finished-intra : true ≡ prediction_fits p.picture planes → result 0 (slice_start p (slice_count p.picture)) (predicted_planes p.picture planes) ≡ finished p planes
+    unfolding predicted accepted prediction_fits predicted_planes
+    finished-intra all =
+        first-chosen (prediction_fits p.picture planes) (accepted p (predicted_planes p.picture planes)) _ (sym all) ∙ finished-predicted
 
-      pub finished-out : fits ≡ false → result 9 (slice_count p.picture) (zeros planes) ≡ finished p planes
-      unfolding predicted prediction_fits predicted_planes
-      finished-out some =
-          second-chosen (prediction_fits p.picture planes) (accepted p (predicted_planes p.picture planes)) _ (sym told ∙ some) ∙ finished-predicted
+    pub finished-out : false ≡ prediction_fits p.picture planes → result 9 (slice_count p.picture) (zeros planes) ≡ finished p planes
+    unfolding predicted prediction_fits predicted_planes
+    finished-out some =
+        second-chosen (prediction_fits p.picture planes) (accepted p (predicted_planes p.picture planes)) _ (sym some) ∙ finished-predicted
 
 -- level 0 of a component lies in its plane
 pub low-inside : (g : Grid) → Whole g → (plane : List ℤ) → length plane ≡ g.width * g.height → (low : Subband) → low ≡ subband_at g.depth g.width g.height 0 →
@@ -198,6 +175,22 @@ module _ (p : LowDelay) (bytes : List ℕ) (k : ℕ) (planes : Planes) where
   pub slices-over : (left : ℕ) → left ≡ 0 → slices_from p bytes left k planes ≡ finished p planes
   unfolding slices_from
   slices-over left none = rw none refl
+
+-- no refusal has the number 0
+pub refusal-some : (r : Refusal) → number_of r ≢ 0
+refusal-some Size e = omega (arith, e)
+refusal-some Depth e = omega (arith, e)
+refusal-some Wavelet e = omega (arith, e)
+refusal-some Codeblocks e = omega (arith, e)
+refusal-some PlanesRefused e = omega (arith, e)
+refusal-some BytesEndEarly e = omega (arith, e)
+refusal-some CodeTooLong e = omega (arith, e)
+refusal-some Quantiser e = omega (arith, e)
+refusal-some ValueOutOfRange e = omega (arith, e)
+refusal-some SynthesisOutOfRange e = omega (arith, e)
+refusal-some BytesLeftOver e = omega (arith, e)
+refusal-some Slices e = omega (arith, e)
+refusal-some LumaLength e = omega (arith, e)
 
 -- the job: a check refuses it, or its slices are read over zeros
 module _ (p : LowDelay) (bytes : List ℕ) (planes : Planes) where

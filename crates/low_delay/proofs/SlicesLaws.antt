@@ -11,11 +11,12 @@ use lib.Pow.{pow_mono, pow_pos}
 use lib.ListN.{length, take, drop, length-drop}
 use lib.Seq.{length-take-le}
 use borrow.Author.Tests.{lt-ltb, le-ltb}
+use Rattle.std.specs.Prelude.{Result, Err}
 use Rattle.std.specs.Int.{IsPowerOfTwo}
+use Rattle.base.specs.Refusals.{number_of}
+use Rattle.base.specs.declared.status.Fault.{Fault}
 use Rattle.exp_golomb.specs.Bits.{bits_from}
 use Rattle.coefficients.specs.Reading.{goes_on, stops}
-use Rattle.coefficients.specs.declared.reading.Progress.{Progress}
-use Rattle.coefficients.specs.declared.reading.Progress.TheVariants.{Refused}
 use Rattle.slices.specs.Planes.{Planes}
 use Rattle.slices.specs.Areas.{slice_count}
 use Rattle.slices.specs.Parts.{Parts, refused, parts_values}
@@ -143,14 +144,14 @@ module _ (p : LowDelay) (bytes : List ℕ) (k start next : ℕ) (start_is : star
     slice-there = rw (← start_is, ← next-is, le-ltb (length bytes) next there, own-length) refl
 
     -- what its parts leave is what it leaves
-    pub slice-refused : (status bit end : ℕ) (last : Planes) (run : List ℤ) → refused status bit ≡ low_delay_parts p.picture (length own_bytes) own_bytes (8 * start) →
-        Left end (Refused status bit) last run (slice p bytes k planes)
-    slice-refused status bit end last run is =
-        left-refused end status bit planes last run _
-        (sym (parts-refused p.picture k status bit (8 * start) planes) ∙ ap (λ (parts : Parts). parts_values p.picture k parts (goes_on (8 * start) planes)) is ∙ slice-there)
+    pub slice-refused : (fault : Fault) (end : ℕ) (last : Planes) (run : List ℤ) → refused (number_of fault.refusal) fault.bit ≡ low_delay_parts p.picture (length own_bytes) own_bytes (8 * start) →
+        Left end (Err fault) last run (slice p bytes k planes)
+    slice-refused fault end last run is =
+        left-refused end fault planes last run _
+        (sym (parts-refused p.picture k (number_of fault.refusal) fault.bit (8 * start) planes) ∙ ap (λ (parts : Parts). parts_values p.picture k parts (goes_on (8 * start) planes)) is ∙ slice-there)
 
-    pub slice-read : start ≤ next → (parts : Parts) → parts ≡ low_delay_parts p.picture (length own_bytes) own_bytes (8 * start) → (progress : Progress) (last : Planes) (run : List ℤ) →
-        ((at : ℕ) → Left (8 * start + 8 * length own_bytes) progress last run (parts_values p.picture k parts (goes_on at planes))) → Left (8 * slice_start p (suc k)) progress last run (slice p bytes k planes)
-    slice-read forward parts is progress last run left =
+    pub slice-read : start ≤ next → (parts : Parts) → parts ≡ low_delay_parts p.picture (length own_bytes) own_bytes (8 * start) → (result : Result ℕ Fault) (last : Planes) (run : List ℤ) →
+        ((at : ℕ) → Left (8 * start + 8 * length own_bytes) result last run (parts_values p.picture k parts (goes_on at planes))) → Left (8 * slice_start p (suc k)) result last run (slice p bytes k planes)
+    slice-read forward parts is result last run left =
         let whole : 8 * start + 8 * length own_bytes ≡ 8 * slice_start p (suc k) = omega (arith, own-length, next-is) in
-        rw (← slice-there, ← is) (subst (λ (n : ℕ). Left n progress last run (parts_values p.picture k parts (goes_on (8 * start) planes))) whole (left (8 * start)))
+        rw (← slice-there, ← is) (subst (λ (n : ℕ). Left n result last run (parts_values p.picture k parts (goes_on (8 * start) planes))) whole (left (8 * start)))

@@ -1,5 +1,6 @@
 // Document 02, request Four: the checks behind refusals 1, 2, 13 and 5.
 ghost use Rattle.std.specs.Prelude.{◌≡◌, ◌&&◌, ◌≤◌};
+ghost use Rattle.base.specs.Refusals.{status_of};
 ghost use Rattle.component.specs.Checks.{in_range};
 ghost use Rattle.slices.specs.Areas.{grid_of};
 ghost use Rattle.slices.specs.Planes.{Planes};
@@ -8,30 +9,32 @@ ghost use Rattle.low_delay.specs.Job.{sizes_in_range, counts_in_range, fraction_
 ghost use Rattle.low_delay.specs.Bounds.{PlanesOfLengths};
 
 use crate::parameters::LowDelay;
-use base::{limits, status};
+use base::limits;
+use base::status::Refusal;
 use component::checks::in_range;
 use component::subbands::subband_count;
 use slices::areas::grid_of;
 use slices::parameters::Picture;
 
-// The first of these refusals that applies to planes of these lengths, or 0.
-pub fn refusal(p: LowDelay, luma: usize, first: usize, second: usize) -> u32
-    ensures { (planes : Planes) → PlanesOfLengths luma first second planes → result ≡ refusal_of p planes }
+// The first of these refusals that applies to planes of these lengths.
+#[tactic(auto, unfolding(crate::specs::Job::refusal_of))]
+pub fn check(p: LowDelay, luma: usize, first: usize, second: usize) -> Result<(), Refusal>
+    ensures { (planes : Planes) → PlanesOfLengths luma first second planes → status_of result ≡ refusal_of p planes }
 {
     let picture = p.picture;
     if !sizes_in_range(picture) {
-        return status::SIZE_REFUSED;
+        return Err(Refusal::Size);
     }
     if !in_range(0, limits::DEPTH_MOST, picture.depth) {
-        return status::DEPTH_REFUSED;
+        return Err(Refusal::Depth);
     }
     if !slices_in_range(p) {
-        return status::SLICES_REFUSED;
+        return Err(Refusal::Slices);
     }
     if !planes_fit(picture, luma, first, second) {
-        return status::PLANE_REFUSED;
+        return Err(Refusal::Planes);
     }
-    status::ACCEPTED
+    Ok(())
 }
 
 // Whether the sizes of luma and of the chroma pair are in range.

@@ -1,60 +1,52 @@
 // Document 02, request Four: the header of a low delay slice, which is its quantiser index and luma's bit length.
-ghost use Rattle.std.specs.Prelude.{◌≡◌, ◌+◌, ◌*◌, ◌^◌, ◌≤◌, ◌<◌, length};
+ghost use Rattle.std.specs.Prelude.{◌≡◌, ◌+◌, ◌*◌, ◌^◌, ◌≤◌, ◌<◌, IfOk, length};
 ghost use Rattle.exp_golomb.specs.Bits.{bits_from};
 ghost use Rattle.slices.specs.Bounds.{Checked};
 ghost use Rattle.low_delay.specs.Slices.{length_bits, low_delay_parts};
-ghost use Rattle.low_delay.specs.Bounds.{parts_of, SoundHeader};
+ghost use Rattle.low_delay.specs.Bounds.{parts_of, SoundParts};
 
-use base::status::{LUMA_LENGTH_REFUSED, QUANTISER_REFUSED};
+use base::status::{Fault, Refusal};
 use slices::areas::indices_fit;
 use slices::parameters::Picture;
 
 // How many bits the quantiser index of a slice has.
 const INDEX_BITS: usize = 7;
 
-// What a header says.
+// What a header says: the slice's quantiser index, and the bits at which luma's part starts and ends. The rest is that of C1 and C2.
 #[derive(Clone, Copy)]
-pub enum Header {
-    // The slice is refused: a refusal's number, and the bit of all bytes at which it arose.
-    Refused {
-        status: u32,
-        bit: usize,
-    },
-    // The slice's quantiser index, and the bits at which luma's part starts and ends. The rest is that of C1 and C2.
-    Read {
-        index: u32,
-        from: usize,
-        middle: usize,
-    },
+pub struct Header {
+    pub index: u32,
+    pub from: usize,
+    pub middle: usize,
 }
 
 // Reads the header of a slice, whose own bytes start at a bit of all bytes.
-pub fn read_header(p: Picture, bytes: &[u8], start: usize) -> Header
+pub fn read_header(p: Picture, bytes: &[u8], start: usize) -> Result<Header, Fault>
     requires { Checked p × (1 ≤ length bytes.now) × (length bytes.now ≤ 65535) × (start < 2 ^ 62) }
     ensures result_value { parts_of bytes.now start result ≡ low_delay_parts p (length bytes.now) bytes.now start }
-    ensures sound_header { SoundHeader p (length bytes.now) result }
+    ensures sound_header { IfOk result (SoundParts p (length bytes.now)) }
 {
-    let index = read_bits(bytes, 0, INDEX_BITS);
+    let index = read_bits(bytes, 0, INDEX_BITS) as u32;
     let n = length_bits(bytes.len());
     let from = INDEX_BITS + n;
     let middle = from + read_bits(bytes, INDEX_BITS, n);
     if 8 * bytes.len() < middle {
-        return Header::Refused {
-            status: LUMA_LENGTH_REFUSED,
+        return Err(Fault {
+            refusal: Refusal::LumaLength,
             bit: start + from,
-        };
+        });
     }
-    if !indices_fit(p, index as u32) {
-        return Header::Refused {
-            status: QUANTISER_REFUSED,
+    if !indices_fit(p, index) {
+        return Err(Fault {
+            refusal: Refusal::Quantiser,
             bit: start + from,
-        };
+        });
     }
-    Header::Read {
-        index: index as u32,
+    Ok(Header {
+        index,
         from,
         middle,
-    }
+    })
 }
 
 // The n bits from a bit on, as a number.

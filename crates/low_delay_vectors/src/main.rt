@@ -9,6 +9,7 @@ ghost use Rattle.std.specs.Prelude.{◌≡◌, true, ◌≤◌, length};
 
 use crate::input::{HEADER_SIZE, Lengths, lengths_of, parameters_of};
 use crate::output::print_answer;
+use component::parameters::Answer;
 use low_delay::parameters::LowDelay;
 use low_delay::unpack_low_delay;
 use std::io;
@@ -114,8 +115,8 @@ fn unpack_and_print(
     luma.fill(7);
     first.fill(7);
     second.fill(7);
-    let answer = unpack_low_delay(p, bytes, luma, first, second);
-    print_answer(rt, p, bytes.len(), answer)?;
+    let outcome = unpack_low_delay(p, bytes, luma, first, second);
+    print_answer(rt, p, bytes.len(), Answer::from(outcome))?;
     print_row(&mut io::writer(rt), luma)?;
     print_row(&mut io::writer(rt), first)?;
     print_row(&mut io::writer(rt), second)

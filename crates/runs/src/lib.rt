@@ -80,7 +80,7 @@ pub fn read_run(
     Ok(bit)
 }
 
-// Reads a value or more: many at once where small values fit.
+// Reads a value or more: many at once where small values fit, by the next bits, with ones for those past the end; one value where none ends in them.
 fn read_some(
     run: &mut [i32],
     placing: SideBySide,
@@ -94,33 +94,15 @@ fn read_some(
     ensures some { (1 ≤ result.count) × (i + result.count ≤ placing.count) }
 {
     if small_fit(decoder.q) {
-        return read_window(run, placing, i, bytes, cursor, decoder);
+        let w = padded_window(bytes, cursor.end, cursor.bit);
+        let batch = read_few(run, placing, i, w, decoder);
+        if batch.count != 0 {
+            return Portion {
+                count: batch.count,
+                progress: Ok(cursor.end.min(cursor.bit + batch.bits)),
+                short: false,
+            };
+        }
     }
     read_value(run, placing, i, bytes, cursor, decoder.q)
-}
-
-// Reads values by the next bits, with ones for those past the end, or one value where none ends in them.
-fn read_window(
-    run: &mut [i32],
-    placing: SideBySide,
-    i: usize,
-    bytes: &[u8],
-    cursor: Cursor,
-    decoder: Decoder,
-) -> Portion
-    requires ready { (i < placing.count) × Ready (side_by_side placing.count) i run.old × Inside bytes.now cursor }
-    requires fit { small_fit decoder.q ≡ true }
-    ensures read { Reads bytes.now cursor (scale_of decoder.entry.q) (index_of (side_by_side placing.count)) i run.old result run.new }
-    ensures some { (1 ≤ result.count) × (i + result.count ≤ placing.count) }
-{
-    let w = padded_window(bytes, cursor.end, cursor.bit);
-    let batch = read_few(run, placing, i, w, decoder);
-    if batch.count == 0 {
-        return read_value(run, placing, i, bytes, cursor, decoder.q);
-    }
-    Portion {
-        count: batch.count,
-        progress: Ok(cursor.end.min(cursor.bit + batch.bits)),
-        short: false,
-    }
 }

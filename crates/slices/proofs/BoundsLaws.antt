@@ -12,7 +12,7 @@ use lib.ListN.{length, set}
 use lib.Seq.{get_or-set_same, get_or-set_other}
 use Rattle.coefficients.specs.Quantiser.{dequantise}
 use Rattle.coefficients.specs.Scaling.{scale_of, small_fit, Small}
-use Rattle.coefficients.specs.declared.quantiser.Quantiser.{Quantiser}
+use Rattle.coefficients.specs.declared.reading.Quantiser.{Quantiser}
 use Rattle.slices.specs.Bounds.{KnowsSmall}
 
 -- what a quantiser makes of small sizes is what every quantiser of the index makes of them

@@ -1,8 +1,9 @@
 // Document 02, request Four: the rectangles of a slice, and the quantiser index of each of its subbands.
-ghost use Rattle.std.specs.Prelude.{◌≡◌, ◌*◌, ◌≤◌, ◌<◌};
+ghost use Rattle.std.specs.Prelude.{◌≡◌, ◌*◌, ◌/◌, ◌%◌, ◌≤◌, ◌<◌};
+ghost use Rattle.component.specs.Reciprocal.{reciprocal_of};
 ghost use Rattle.component.specs.Subbands.{subband_count};
 ghost use Rattle.slices.specs.Areas.{grid_of, slice_area, subband_index, indices_fit};
-ghost use Rattle.slices.specs.Bounds.{Checked, Whole, Standing};
+ghost use Rattle.slices.specs.Bounds.{Checked, Whole};
 
 use crate::parameters::{Grid, Picture};
 use base::limits::QUANTISER_MOST;
@@ -20,6 +21,12 @@ pub struct Slice {
     pub y: usize,
     pub across_reciprocal: usize,
     pub down_reciprocal: usize,
+    pub ghost whole: { Whole grid },
+    pub ghost counted: { number < grid.across * grid.down },
+    pub ghost column: { x ≡ number % grid.across },
+    pub ghost row: { y ≡ number / grid.across },
+    pub ghost across_by: { across_reciprocal ≡ reciprocal_of grid.across },
+    pub ghost down_by: { down_reciprocal ≡ reciprocal_of grid.down },
 }
 
 // The plane of a component of a width and height.
@@ -41,7 +48,7 @@ impl Slice {
     // Slice s of a component.
     pub fn new(grid: Grid, s: usize) -> Slice
         requires { Whole grid × (s < grid.across * grid.down) }
-        ensures { (result.grid ≡ grid) × (result.number ≡ s) × Standing result }
+        ensures { (result.grid ≡ grid) × (result.number ≡ s) }
     {
         Slice {
             grid,
@@ -55,7 +62,7 @@ impl Slice {
 
     // The rectangle that the slice has of subband k.
     pub fn area_at(self, k: usize) -> Rectangle
-        requires { Whole self.grid × Standing self × (k < subband_count self.grid.depth) }
+        requires { k < subband_count self.grid.depth }
         ensures { result ≡ slice_area self.grid self.number k }
     {
         let g = self.grid;

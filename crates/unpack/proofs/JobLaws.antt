@@ -10,10 +10,7 @@ use lib.ListN.{length, length-replicate}
 use borrow.Author.Tests.{eq-eqb, ne_eqb, eqb-true, not-false}
 use Rattle.std.specs.Prelude.{Result}
 use Rattle.base.specs.Lists.{zeros_like}
-use Rattle.base.specs.Refusals.{number_of}
 use Rattle.base.specs.declared.status.Fault.{Fault}
-use Rattle.base.specs.declared.status.Refusal.{Refusal}
-use Rattle.base.specs.declared.status.Refusal.TheVariants.{Size, Depth, Wavelet, Codeblocks, Planes, BytesEndEarly, CodeTooLong, Quantiser, ValueOutOfRange, SynthesisOutOfRange, BytesLeftOver, Slices, LumaLength}
 use Rattle.base.proofs.Booleans.{and_left}
 use Rattle.base.proofs.ListsLaws.{zeros-length}
 use Rattle.component.specs.Checks.{area_of, planes_fit, refusal_of}
@@ -59,22 +56,6 @@ subbands-zeroed p bytes (suc n) k at plane some = ended-zeroed k _ _ (subbands_f
 -- What the checks say of a plane.
 abbrev pub status : Parameters → List ℤ → ℕ
 status p plane = refusal_of Unpack p (record { coefficients = length plane; work = 0; samples = 0 })
-
--- no refusal has the number 0
-pub refusal-some : (r : Refusal) → number_of r ≢ 0
-refusal-some Size e = omega arith
-refusal-some Depth e = omega arith
-refusal-some Wavelet e = omega arith
-refusal-some Codeblocks e = omega arith
-refusal-some Planes e = omega arith
-refusal-some BytesEndEarly e = omega arith
-refusal-some CodeTooLong e = omega arith
-refusal-some Quantiser e = omega arith
-refusal-some ValueOutOfRange e = omega arith
-refusal-some SynthesisOutOfRange e = omega arith
-refusal-some BytesLeftOver e = omega arith
-refusal-some Slices e = omega arith
-refusal-some LumaLength e = omega arith
 
 -- refused by a check, and not
 module _ (p : Parameters) (bytes : List ℕ) (plane : List ℤ) where

@@ -4,7 +4,7 @@ use mathlib.Core.Path.{◌≡◌, refl, subst}
 use mathlib.Core.Logic.{◌≢◌}
 use mathlib.Core.Bool.{Bool, true, false, cond}
 use mathlib.Core.List.{List}
-use Prim.Native.Nat.{ℕ, zero, suc, ◌+◌, ◌*◌, ◌≤◌, ◌<◌}
+use Prim.Native.Nat.{ℕ, zero, suc, ◌<◌}
 use native.Mathlib.Nat.{mul-le-mul_right, mul_comm}
 use native.Mathlib.Omega.{arith}
 use lib.IntN.{ℤ}
@@ -53,13 +53,6 @@ codeblocks-placed p checked k below plane long =
       inside =
           omega (arith, mul-le-mul_right (padded_size p.depth p.width) inside.1, mul_comm (padded_size p.depth p.height) (padded_size p.depth p.width), long);
     }
-
--- so does a band of its size at the top left
-pub band-inside : (b : CodeblockGrid) (plane : List ℤ) → Placed b plane →
-    (b.subband.width ≤ b.stride) × (b.stride ≤ 4096) × (b.subband.height ≤ 4096) × (b.subband.height * b.stride ≤ length plane)
-band-inside b plane placed =
-    let lower : b.subband.height ≤ b.subband.top + b.subband.height = omega arith in
-    (omega (arith, placed.counted.wide), placed.counted.narrow, omega (arith, placed.counted.tall), omega (arith, mul-le-mul_right b.stride lower, placed.inside))
 
 -- the data of a subband, read to their end or refused: reading goes on where the length ends
 module _ (next : ℕ) (plane : List ℤ) (r : Run) where

@@ -1,10 +1,10 @@
 // Document 01, "One subband": what a header announces, read or refused, and the prediction of a band.
-ghost use Rattle.std.specs.Prelude.{◌≡◌, Ok, ◌+◌, ◌/◌, ◌≤◌, ◌<◌, ◌^◌, length};
+ghost use Rattle.std.specs.Prelude.{◌≡◌, ◌+◌, ◌/◌, ◌≤◌, ◌<◌, ◌^◌, length};
 ghost use Rattle.component.specs.Subbands.{subband_count};
 ghost use Rattle.coefficients.specs.Scaling.{scale_of};
 ghost use Rattle.coefficients.specs.Values.{after};
 ghost use Rattle.codeblocks.specs.Blocks.{Placed};
-ghost use Rattle.unpack.specs.Header.{header_of};
+ghost use Rattle.unpack.specs.Header.{read_as};
 ghost use Rattle.unpack.specs.Subband.{codeblocks_of, subband_data, headed, predicted_band};
 ghost use Rattle.unpack.specs.Bounds.{Checked, ClearBand, SoundHeader};
 
@@ -40,8 +40,8 @@ impl Reader<'_> {
         blocks: CodeblockGrid,
         header: ReadHeader,
     ) -> Result<usize, Fault>
-        requires { Placed blocks plane.old × ClearBand blocks plane.old × SoundHeader (header_of (Ok header)) }
-        ensures { after result plane.new ≡ headed blocks self.entry.bytes.now self.entry.p.intra (header_of (Ok header)) plane.old }
+        requires { Placed blocks plane.old × ClearBand blocks plane.old × SoundHeader (read_as header) }
+        ensures { after result plane.new ≡ headed blocks self.entry.bytes.now self.entry.p.intra (read_as header) plane.old }
     {
         match header {
             ReadHeader::Skipped { bit } => Ok(bit),

@@ -2,9 +2,11 @@ use mathlib.Core.Path.{◌≡◌, refl, sym, ap, ◌∙◌}
 use Prim.Native.Nat.{suc, ◌-◌}
 use native.Mathlib.Numerals.{add-one}
 use native.Mathlib.Omega.{arith}
-use Rattle.slices.specs.Planes.{planes_of}
+use Rattle.base.specs.Refusals.{number_of}
+use Rattle.slices.specs.Stores.{planes_behind}
 use Rattle.slices.proofs.PartsLaws.{lengths-same}
 use Rattle.slices.proofs.ReadsLaws.{blank-zeros, left-on}
+use Rattle.slices.proofs.StoresLaws.{same_planes-then}
 use Rattle.low_delay.specs.Job.{result, outcome}
 use Rattle.low_delay.proofs.JobLaws.{zeros-same, slices-read, slices-refused, slices-over}
 use Rattle.low_delay.proofs.read_slices.Goals as goal
@@ -12,47 +14,46 @@ use Rattle.low_delay.proofs.read_slices.Goals as goal
 pub loop-k-init : goal.loop-k-init
 loop-k-init c =
     let whole : c.slice_count-count.result ≡ c.slice_count-count.result - 0 = omega arith in
-    (omega arith, refl, refl, refl, refl, blank-zeros, rw (← whole) refl)
-
-pub slice_bounds-read_slice-end : goal.slice_bounds-read_slice-end
-slice_bounds-read_slice-end c = sym c.loop-k.invariant.4
+    (omega arith, ((refl, refl, refl), (refl, refl, refl)), refl, blank-zeros, rw (← whole) refl)
 
 pub read_slice-requires : goal.read_slice-requires
 read_slice-requires c =
-    let inv = c.loop-k.invariant in record { sound = (c.requires.0, c.requires.1, omega (arith, c.loop-k-test, c.slice_count-count.ensures.0)); planes = (lengths-same _ _ _ _ _ _ _ inv.1 inv.2 inv.3 c.requires.2, inv.5); tables = (c.lookup_table-table.ensures, c.fill_small_table.ensures, c.factor_table-factors.ensures) }
+    let inv = c.loop-k.invariant in
+    record {
+      sound = (c.requires.0, c.requires.1, omega (arith, c.loop-k-test, c.slice_count-count.ensures.0));
+      planes = (lengths-same _ _ _ inv.1.1 c.requires.2, inv.3);
+      tables = c.new-tables.ensures;
+    }
 
 pub loop-k-preserved : goal.loop-k-preserved
 loop-k-preserved c =
     let inv = c.loop-k.invariant in
-    let told = c.in-At.is in (
+    let left = c.in_default.ensures.read in (
       omega (arith, c.loop-k-test),
-      c.read_slice.auto.luma ∙ inv.1,
-      c.read_slice.auto.first ∙ inv.2,
-      c.read_slice.auto.second ∙ inv.3,
-      c.read_slice.auto.run ∙ inv.4,
-      c.read_slice.ensures.run_blank _ told,
-      inv.6 ∙ rw (add-one c.loop-k.k) (slices-read _ _ c.loop-k.k _ _ _ _ _ (omega (arith, c.loop-k-test)) (left-on _ _ _ _ _ c.read_slice.ensures _ told)),
+      same_planes-then c.args.planes.now c.loop-k.planes c.read_slice.new.planes inv.1 c.read_slice.ensures.same,
+      c.read_slice.auto.run ∙ inv.2,
+      left.run_blank _ refl,
+      inv.4 ∙ rw (add-one c.loop-k.k) (slices-read _ _ c.loop-k.k _ _ _ _ _ (omega (arith, c.loop-k-test)) (left-on _ _ _ _ _ left)),
     )
 
-pub returns-in-Refused : goal.returns-in-Refused
+pub returns-in-Err-clause-ended : goal.returns-in-Err-clause-ended
 unfolding outcome
-returns-in-Refused c =
+returns-in-Err-clause-ended c =
     let count = c.slice_count-count.ensures.0 in
-    let told = c.in-Refused.is in
     let left : c.slice_count-count.result - c.loop-k.k ≡ suc (c.slice_count-count.result - suc c.loop-k.k) = omega (arith, c.loop-k-test) in
-    ap (result c.in-Refused.status c.loop-k.k)
-    (c.zero_planes.ensures ∙ zeros-same _ (planes_of c.loop-k.luma c.loop-k.first c.loop-k.second) c.read_slice.auto.luma c.read_slice.auto.first c.read_slice.auto.second)
-    ∙ sym (slices-refused _ _ c.loop-k.k _ _ _ _ _ left (sym c.read_slice.ensures.progress_is ∙ told))
-    ∙ sym c.loop-k.invariant.6 ∙ rw count refl
+    let long = c.read_slice.ensures.same.1 in
+    ap (result (number_of c.in-Err.fault.refusal) c.loop-k.k)
+    (c.zero_planes.ensures.zeroed ∙ zeros-same _ (planes_behind c.loop-k.planes) long.0 long.1 long.2)
+    ∙ sym (slices-refused _ _ c.loop-k.k _ _ _ _ _ left (sym c.in-Err.ensures.read.progress_is))
+    ∙ sym c.loop-k.invariant.4 ∙ rw count refl
 
 pub finish-requires : goal.finish-requires
 finish-requires c =
-    let inv = c.loop-k.invariant in
-    (c.requires.0, c.requires.1, lengths-same _ _ _ _ _ _ _ inv.1 inv.2 inv.3 c.requires.2)
+    (c.requires.0, c.requires.1, lengths-same _ _ _ c.loop-k.invariant.1.1 c.requires.2)
 
-pub returns : goal.returns
-returns c =
+pub returns-clause-ended : goal.returns-clause-ended
+returns-clause-ended c =
     let count = c.slice_count-count.ensures.0 in
-    c.finish.ensures
+    c.finish.ensures.ended
     ∙ sym (slices-over _ _ c.loop-k.k _ _ (omega (arith, c.loop-k.invariant.0, c.loop-k-test)))
-    ∙ sym c.loop-k.invariant.6 ∙ rw count refl
+    ∙ sym c.loop-k.invariant.4 ∙ rw count refl

@@ -2,12 +2,12 @@
 use mathlib.Core.Path.{◌≡◌}
 use Prim.Native.Nat.{◌-◌, ◌≤◌}
 use lib.ListN.{length}
-use Rattle.slices.specs.Planes.{planes_of}
+use Rattle.slices.specs.Stores.{planes_behind, SamePlanes}
 use Rattle.slices.specs.Reads.{Blank}
 use Rattle.low_delay.specs.Job.{slices_from}
 use Rattle.low_delay.proofs.read_slices.Given as goal
 
 abbrev pub invariant-loop-k : goal.invariant-loop-k
 invariant-loop-k l =
-    (l.k ≤ l.count) × (length l.luma ≡ length l.initial.luma) × (length l.first ≡ length l.initial.first) × (length l.second ≡ length l.initial.second) × (length l.run ≡ 8192) × Blank l.run
-    × (slices_from l.p l.bytes l.count 0 (planes_of l.initial.luma l.initial.first l.initial.second) ≡ slices_from l.p l.bytes (l.count - l.k) l.k (planes_of l.luma l.first l.second))
+    (l.k ≤ l.count) × SamePlanes l.initial.planes l.planes × (length l.run ≡ 8192) × Blank l.run
+    × (slices_from l.p l.bytes l.count 0 (planes_behind l.initial.planes) ≡ slices_from l.p l.bytes (l.count - l.k) l.k (planes_behind l.planes))

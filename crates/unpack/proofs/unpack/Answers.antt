@@ -2,10 +2,11 @@
 use mathlib.Core.Path.{◌≡◌, sym, ◌∙◌}
 use lib.ListN.{length}
 use Rattle.std.proofs.lemmas.Result.{err_from_is_err_and}
+use Rattle.base.proofs.RefusalsLaws.{refusal-some}
 use Rattle.component.specs.Checks.{refusal_of}
 use Rattle.component.specs.declared.parameters.Job.TheVariants.{Unpack}
 use Rattle.unpack.specs.Job.{outcome}
-use Rattle.unpack.proofs.JobLaws.{job-refused, job_read, job-checked, job-fits, refusal-some}
+use Rattle.unpack.proofs.JobLaws.{job-refused, job_read, job-checked, job-fits}
 use Rattle.unpack.proofs.Frame.{zeros-clear}
 use Rattle.unpack.proofs.unpack.Goals as goal
 use Rattle.unpack.proofs.unpack.Goals.{In_ok-check}

@@ -1,28 +1,24 @@
 -- `low_delay::finish::finish` meets its contract: the planes of an intra picture are predicted, and the answer is that of the definition.
 use borrow.Author.Tests.{not-true, not-false}
-use Rattle.slices.specs.Planes.{planes_of}
+use Rattle.slices.specs.Stores.{planes_behind}
 use Rattle.low_delay.specs.Job.{outcome}
 use Rattle.low_delay.proofs.JobLaws.{zeros-same, finished-inter, finished-intra, finished-out}
 use Rattle.low_delay.proofs.finish.finish.Goals as goal
 
-pub returns-then-not-picture : goal.returns-then-not-picture
+pub returns-then-not-picture-clause-ended : goal.returns-then-not-picture-clause-ended
 unfolding outcome
-returns-then-not-picture c = rw (c.slice_start-used.ensures.0, c.slice_count-count.ensures.0) (finished-inter _ _ (not-true _ c.if-not-picture.true))
+returns-then-not-picture-clause-ended c = rw (c.slice_start-used.ensures.0, c.slice_count-count.ensures.0) (finished-inter _ _ (not-true _ c.if-not-picture.true))
 
-pub returns-then-predict_planes : goal.returns-then-predict_planes
+pub returns-in-Ok-clause-ended : goal.returns-in-Ok-clause-ended
 unfolding outcome
-returns-then-predict_planes c =
-    let told = c.predict_planes.ensures in
-    rw (c.slice_start-used.ensures.0, c.slice_count-count.ensures.0, told.done c.if-predict_planes.true)
-    (finished-intra _ _ (not-false _ c.if-not-picture.false) _ told.told c.if-predict_planes.true)
+returns-in-Ok-clause-ended c =
+    rw (c.slice_start-used.ensures.0, c.slice_count-count.ensures.0, c.in-Ok.ensures.done)
+    (finished-intra _ _ (not-false _ c.if-not-picture.false) c.in-Ok.ensures.told)
 
-pub returns : goal.returns
+pub returns-in-Err-clause-ended : goal.returns-in-Err-clause-ended
 unfolding outcome
-returns c =
-    let same = zeros-same
-    (planes_of c.predict_planes.new.luma c.predict_planes.new.first c.predict_planes.new.second)
-    (planes_of c.args.luma.now c.args.first.now c.args.second.now)
-    c.predict_planes.auto.luma c.predict_planes.auto.first c.predict_planes.auto.second
-    in
-    rw (c.slice_count-count.ensures.0, c.zero_planes.ensures, same)
-    (finished-out _ _ (not-false _ c.if-not-picture.false) _ c.predict_planes.ensures.told c.if-predict_planes.false)
+returns-in-Err-clause-ended c =
+    let long = c.predict_planes.ensures.same.1 in
+    let same = zeros-same (planes_behind c.predict_planes.new.planes) (planes_behind c.args.planes.now) long.0 long.1 long.2 in
+    rw (c.slice_count-count.ensures.0, c.zero_planes.ensures.zeroed, same)
+    (finished-out _ _ (not-false _ c.if-not-picture.false) c.in-Err.ensures.told)

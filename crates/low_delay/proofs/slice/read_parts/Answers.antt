@@ -1,34 +1,45 @@
 -- `low_delay::slice::read_parts` meets its contract: the second part is read where the first was, and the slice then goes on at its end.
+use mathlib.Core.Path.{refl}
 use native.Mathlib.Omega.{arith}
+use Rattle.std.proofs.lemmas.Result.{err_from_is_err_and}
 use Rattle.slices.proofs.PartsLaws.{lengths-same, first-stopped, second-stopped, both_read}
 use Rattle.slices.proofs.ReadsLaws.{left-on}
 use Rattle.low_delay.proofs.slice.read_parts.Goals as goal
 
-pub read_part-progress-requires : goal.read_part-progress-requires
-read_part-progress-requires c =
+pub read_part-requires : goal.read_part-requires
+read_part-requires c =
     let parts = c.requires.sound.3 in
-    rw c.part_of-part.ensures
+    rw c.part_of-luma.ensures
     (record {
       sound = (c.requires.sound.0, c.requires.sound.1, parts.indexed, record { before_end = parts.forward; small = omega (arith, parts.inside, c.requires.sound.2) });
       planes = c.requires.planes;
       tables = c.requires.tables;
     })
 
-pub returns-in_default : goal.returns-in_default
-returns-in_default c =
-    λ at. first-stopped _ _ _ _ _ _ _ _ _ _ _ _ c.read_part-progress.result _ _ _ _ c.in_default.is (rw c.part_of-part.ensures at c.read_part-progress.ensures)
+pub returns-in_err-read_part-clause-read : goal.returns-in_err-read_part-clause-read
+returns-in_err-read_part-clause-read c =
+    let refused = err_from_is_err_and c.from_residual.result c.from_residual.ensures.1 in
+    rw (refused.1, refused.2)
+    (λ at. first-stopped _ _ _ _ _ _ _ _ _ _ _ _ _ _ _ (rw c.part_of-luma.ensures at c.in_err-read_part.ensures.read))
 
-pub read_part-last-requires : goal.read_part-last-requires
-read_part-last-requires c =
+pub read_part-requires-2 : goal.read_part-requires-2
+read_part-requires-2 c =
     let parts = c.requires.sound.3 in
-    rw c.part_of-rest.ensures (record { sound = (c.requires.sound.0, c.requires.sound.1, parts.indexed, record { before_end = parts.inside; small = c.requires.sound.2 }); planes = (lengths-same _ _ _ _ _ _ _ c.read_part-progress.auto.luma c.read_part-progress.auto.first c.read_part-progress.auto.second c.requires.planes.0, c.read_part-progress.ensures.run_blank _ c.in-At.is); tables = c.requires.tables })
+    rw c.part_of-both.ensures
+    (record {
+      sound = (c.requires.sound.0, c.requires.sound.1, parts.indexed, record { before_end = parts.inside; small = c.requires.sound.2 });
+      planes = (lengths-same _ _ _ c.read_part.ensures.same.1 c.requires.planes.0, c.in_ok-read_part.ensures.read.run_blank _ refl);
+      tables = c.requires.tables;
+    })
 
-pub returns-in_default-last : goal.returns-in_default-last
-returns-in_default-last c =
-    λ at.
-    second-stopped _ _ _ _ _ _ _ _ _ _ _ _ (left-on _ _ _ _ _ (rw c.part_of-part.ensures at c.read_part-progress.ensures) _ c.in-At.is) _ _ c.read_part-last.result _ _ _ _ c.in_default-last.is (rw c.part_of-rest.ensures at c.read_part-last.ensures)
+pub returns-in_err-read_part-2-clause-read : goal.returns-in_err-read_part-2-clause-read
+returns-in_err-read_part-2-clause-read c =
+    let refused = err_from_is_err_and c.from_residual-in_err-read_part-2.result c.from_residual-in_err-read_part-2.ensures.1 in
+    rw (refused.1, refused.2)
+    (λ at. second-stopped _ _ _ _ _ _ _ _ _ _ _ _ (left-on _ _ _ _ _ (rw c.part_of-luma.ensures at c.in_ok-read_part.ensures.read))
+    _ _ _ _ _ (rw c.part_of-both.ensures at c.in_err-read_part-2.ensures.read))
 
-pub returns : goal.returns
-returns c =
-    λ at.
-    both_read _ _ _ _ _ _ _ _ _ _ _ _ (left-on _ _ _ _ _ (rw c.part_of-part.ensures at c.read_part-progress.ensures) _ c.in-At.is) _ c.read_part-last.result _ _ _ c.in-At-last.is (rw c.part_of-rest.ensures at c.read_part-last.ensures)
+pub returns-clause-read : goal.returns-clause-read
+returns-clause-read c =
+    λ at. both_read _ _ _ _ _ _ _ _ _ _ _ _ (left-on _ _ _ _ _ (rw c.part_of-luma.ensures at c.in_ok-read_part.ensures.read))
+    _ _ _ _ (rw c.part_of-both.ensures at c.in_ok-read_part-2.ensures.read)

@@ -4,7 +4,8 @@ use Prim.Native.Nat.{suc, ◌-◌, ◌≤◌, ◌<◌}
 use native.Mathlib.Numerals.{add-one}
 use native.Mathlib.Omega.{arith}
 use lib.ListN.{length, take, drop}
-use Rattle.slices.specs.Planes.{planes_of}
+use Rattle.std.proofs.lemmas.Result.{err_from_is_err_and}
+use Rattle.slices.specs.Stores.{planes_behind}
 use Rattle.slices.proofs.ReadsLaws.{left-refused}
 use Rattle.low_delay.specs.Slices.{slice_start, slice_size}
 use Rattle.low_delay.proofs.SlicesLaws.{count_most, size_is, size-most, size-least, start-grows, own-length, slice-short, slice-refused, slice-read}
@@ -35,7 +36,7 @@ own_is : (c : Else-bytes-next) →
 own_is c =
     let starts = c.slice_start-start.ensures.0 in
     let ends = rw (add-one c.args.of.number) at c.slice_start-next.ensures.0 in
-    own-length _ c.args.bytes.now _ _ _ starts ends (planes_of c.args.luma.now c.args.first.now c.args.second.now) (omega (arith, c.if-bytes-next.false))
+    own-length _ c.args.bytes.now _ _ _ starts ends (planes_behind c.args.planes.now) (omega (arith, c.if-bytes-next.false))
     ∙ size_is _ _ _ _ starts ends
 
 pub slice_start-start-requires : goal.slice_start-start-requires
@@ -47,8 +48,8 @@ overflow_add-of c = omega (arith, slices-few (goal.at.overflow_add-of c).Start)
 pub slice_start-next-requires : goal.slice_start-next-requires
 slice_start-next-requires c = (c.requires.sound.1, omega (arith, slices-few (goal.at.slice_start-next-requires c).Start))
 
-pub returns-then-bytes-next : goal.returns-then-bytes-next
-returns-then-bytes-next c = left-refused _ _ _ _ _ _ _ (slice-short _ _ _ _ _ (starts (goal.at.returns-then-bytes-next c).After-slice_start-next) (ends (goal.at.returns-then-bytes-next c).After-slice_start-next) _ c.if-bytes-next.true)
+pub returns-then-bytes-next-clause-read : goal.returns-then-bytes-next-clause-read
+returns-then-bytes-next-clause-read c = left-refused _ _ _ _ _ _ (slice-short _ _ _ _ _ (starts (goal.at.returns-then-bytes-next-clause-read c).After-slice_start-next) (ends (goal.at.returns-then-bytes-next-clause-read c).After-slice_start-next) _ c.if-bytes-next.true)
 
 pub slice_bounds-own-count : goal.slice_bounds-own-count
 slice_bounds-own-count c = forward (goal.at.slice_bounds-own-count c).Else-bytes-next
@@ -67,15 +68,17 @@ read_header-requires c =
 pub read_parts-requires : goal.read_parts-requires
 read_parts-requires c =
     record {
-      sound = (c.requires.sound.0, c.requires.sound.2, omega (arith, c.slice_start-start.ensures.1, own_is (goal.at.read_parts-requires c).Else-bytes-next, size-most c.args.of.parameters c.requires.sound.1.denominator_least c.args.of.number, c.requires.sound.1.numerator_most), rw c.in-Read.is at c.read_header.ensures.sound_header);
+      sound = (c.requires.sound.0, c.requires.sound.2, omega (arith, c.slice_start-start.ensures.1, own_is (goal.at.read_parts-requires c).Else-bytes-next, size-most c.args.of.parameters c.requires.sound.1.denominator_least c.args.of.number, c.requires.sound.1.numerator_most), c.in_ok-header.ensures.sound_header);
       planes = c.requires.planes;
       tables = c.requires.tables;
     }
 
-pub returns-in-Refused : goal.returns-in-Refused
-returns-in-Refused c =
-    slice-refused _ _ _ _ _ (starts (goal.at.returns-in-Refused c).After-slice_start-next) (ends (goal.at.returns-in-Refused c).After-slice_start-next) _ (omega (arith, c.if-bytes-next.false)) _ _ _ _ _ (rw c.in-Refused.is at c.read_header.ensures.result_value)
+pub returns-in_err-header-clause-read : goal.returns-in_err-header-clause-read
+returns-in_err-header-clause-read c =
+    let refused = err_from_is_err_and c.from_residual.result c.from_residual.ensures.1 in
+    rw (refused.1, refused.2)
+    (slice-refused _ _ _ _ _ (starts (goal.at.returns-in_err-header-clause-read c).After-slice_start-next) (ends (goal.at.returns-in_err-header-clause-read c).After-slice_start-next) _ (omega (arith, c.if-bytes-next.false)) _ _ _ _ c.in_err-header.ensures.result_value)
 
-pub returns-in-Read : goal.returns-in-Read
-returns-in-Read c =
-    slice-read _ _ _ _ _ (starts (goal.at.returns-in-Read c).After-slice_start-next) (ends (goal.at.returns-in-Read c).After-slice_start-next) _ (omega (arith, c.if-bytes-next.false)) (forward (goal.at.returns-in-Read c).Else-bytes-next) _ (rw c.in-Read.is at c.read_header.ensures.result_value) _ _ _ c.read_parts.ensures
+pub returns-clause-read : goal.returns-clause-read
+returns-clause-read c =
+    slice-read _ _ _ _ _ (starts (goal.at.returns-clause-read c).After-slice_start-next) (ends (goal.at.returns-clause-read c).After-slice_start-next) _ (omega (arith, c.if-bytes-next.false)) (forward (goal.at.returns-clause-read c).Else-bytes-next) _ c.in_ok-header.ensures.result_value _ _ _ c.read_parts.ensures.read

@@ -1,38 +1,38 @@
 -- `slices::areas::Slice::area_at` meets its contract: it computes the edges of the slice's rectangle, which lie in the subband.
-use Prim.Native.Nat.{◌≤◌}
 use native.Mathlib.Omega.{arith}
 use Rattle.codeblocks.proofs.BlocksLaws.{BlockRoom}
-use Rattle.slices.proofs.AreasLaws.{StandingRoom, standing-room, band-small, area-room, area-is}
+use Rattle.slices.proofs.AreasLaws.{standing-room, band-small, area-room, area-is}
 use Rattle.slices.proofs.areas.Slice.area_at.Goals as goal
-use Rattle.slices.proofs.areas.Slice.area_at.Goals.{After-part_start_by-bottom, After-subband_at-b, Start}
-
--- the subband is small, and the slice's column and row are within the counts
-band : (c : After-subband_at-b) → (c.subband_at-b.result.width ≤ 4096) × (c.subband_at-b.result.height ≤ 4096)
-band c =
-    band-small c.args.self c.requires.0 c.requires.1 _ c.requires.2 _ c.subband_at-b.ensures
-
-stands : (c : Start) → StandingRoom c.args.self
-stands c = standing-room _ c.requires.0 c.requires.1
+use Rattle.slices.proofs.areas.Slice.area_at.Goals.{After-part_start_by-bottom}
 
 pub part_start_by-left-requires : goal.part_start_by-left-requires
-part_start_by-left-requires c = ((band (goal.at.part_start_by-left-requires c).After-subband_at-b).0, (stands (goal.at.part_start_by-left-requires c).Start).across-small, omega (arith, (stands (goal.at.part_start_by-left-requires c).Start).column-most))
+part_start_by-left-requires c =
+    let room = standing-room c.args.self in
+    ((band-small c.args.self _ c.requires _ c.subband_at-b.ensures).0, room.across-small, omega (arith, room.column-most))
 
 pub part_start_by-right-requires : goal.part_start_by-right-requires
-part_start_by-right-requires c = ((band (goal.at.part_start_by-right-requires c).After-subband_at-b).0, (stands (goal.at.part_start_by-right-requires c).Start).across-small, omega (arith, (stands (goal.at.part_start_by-right-requires c).Start).column-most))
+part_start_by-right-requires c =
+    let room = standing-room c.args.self in
+    ((band-small c.args.self _ c.requires _ c.subband_at-b.ensures).0, room.across-small, omega (arith, room.column-most))
 
 pub part_start_by-top-requires : goal.part_start_by-top-requires
-part_start_by-top-requires c = ((band (goal.at.part_start_by-top-requires c).After-subband_at-b).1, (stands (goal.at.part_start_by-top-requires c).Start).down-small, omega (arith, (stands (goal.at.part_start_by-top-requires c).Start).row-most))
+part_start_by-top-requires c =
+    let room = standing-room c.args.self in
+    ((band-small c.args.self _ c.requires _ c.subband_at-b.ensures).1, room.down-small, omega (arith, room.row-most))
 
 pub part_start_by-bottom-requires : goal.part_start_by-bottom-requires
-part_start_by-bottom-requires c = ((band (goal.at.part_start_by-bottom-requires c).After-subband_at-b).1, (stands (goal.at.part_start_by-bottom-requires c).Start).down-small, omega (arith, (stands (goal.at.part_start_by-bottom-requires c).Start).row-most))
+part_start_by-bottom-requires c =
+    let room = standing-room c.args.self in
+    ((band-small c.args.self _ c.requires _ c.subband_at-b.ensures).1, room.down-small, omega (arith, room.row-most))
 
+-- its edges are the rectangle's
 between : (c : After-part_start_by-bottom) →
     let args = c.args in
     BlockRoom
     (record { stride = args.self.grid.width; subband = c.subband_at-b.result; across = args.self.grid.across; down = args.self.grid.down })
     c.part_start_by-left.result c.part_start_by-right.result c.part_start_by-top.result c.part_start_by-bottom.result
 between c =
-    area-room c.args.self c.requires.0 c.requires.1 _ c.requires.2 _ c.subband_at-b.ensures _ _ _ _
+    area-room c.args.self _ c.requires _ c.subband_at-b.ensures _ _ _ _
     c.part_start_by-left.ensures c.part_start_by-right.ensures
     c.part_start_by-top.ensures c.part_start_by-bottom.ensures
 
@@ -62,6 +62,6 @@ overflow_sub-result-2 c = (between (goal.at.overflow_sub-result-2 c).After-part_
 
 pub returns : goal.returns
 returns c =
-    area-is c.args.self c.requires.0 c.requires.1 _ c.requires.2 _ c.subband_at-b.ensures _ _ _ _
+    area-is c.args.self _ c.requires _ c.subband_at-b.ensures _ _ _ _
     c.part_start_by-left.ensures c.part_start_by-right.ensures
     c.part_start_by-top.ensures c.part_start_by-bottom.ensures

@@ -1,5 +1,5 @@
--- `unpack::data::Reader::read_subbands` meets its contract: the subbands from subband k on give what all of them give, and their entries still hold zeros. A
--- subband is shorter than 2^36 bits, so the bits of all of them can be counted.
+-- `unpack::data::Reader::read_subbands` meets its contract: the subbands from subband k on give what all of them give, and their entries still
+-- hold zeros. A subband is shorter than 2^36 bits, so the bits of all of them can be counted.
 use mathlib.Core.Path.{◌≡◌}
 use Prim.Native.Nat.{◌-◌, ◌*◌, ◌^◌, ◌≤◌}
 use lib.ListN.{length}
