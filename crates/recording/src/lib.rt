@@ -59,6 +59,7 @@ pub fn output_part(
 }
 
 // Puts the lines of entry k of a recording whose table is right.
+#[tactic(auto, using(crate::proofs::OutputLaws::plane_most, crate::proofs::OutputLaws::sample_most))]
 fn entry_text(
     file: &[u8],
     k: usize,
