@@ -56,10 +56,6 @@ module _ (status place size : ℕ) where
   unfolding entry_status
   all-used used = rw (and-false (eqb status 0) (not (eqb place size)) (ap not (eq-eqb place size used)))
 
-  pub left_over : status ≡ 0 → place ≢ size → entry_status status place size ≡ 12
-  unfolding entry_status
-  left_over none other = rw (eq-eqb status 0 none, ne_eqb place size other)
-
   -- so what is accepted was accepted by decode
   pub entry-accepted : entry_status status place size ≡ 0 → status ≡ 0
   entry-accepted fine =

@@ -18,7 +18,8 @@ pub fn put_entry(
     samples: &[i32],
 )
     requires no_text { length text.old ≡ 0 }
-    requires samples_len { (answer_of entry).status ≡ 0 → (length samples.now ≡ p.width * p.height) × (p.width * p.height ≤ 16384) × (p.height ≤ 4096) }
+    requires samples_len { (answer_of entry).status ≡ 0 →
+        (length samples.now ≡ p.width * p.height) × (p.width * p.height ≤ 16384) × (p.height ≤ 4096) }
     ensures { text.new ≡ text.old ++ entry_lines k p (answer_of entry).status (answer_of entry).place samples.now }
 {
     put_heading(text, k);
