@@ -6,6 +6,7 @@ pub mod finish;
 pub mod headers;
 pub mod parameters;
 pub mod planes;
+pub mod reader;
 pub mod slice;
 
 ghost use Rattle.std.specs.Prelude.{◌≡◌};
@@ -17,10 +18,9 @@ ghost use Rattle.slices.specs.Stores.{planes_behind, SamePlanes};
 ghost use Rattle.low_delay.specs.Job.{outcome, slices_from, unpacked};
 
 use crate::checks::check;
-use crate::finish::finish;
-use crate::parameters::{CheckedLowDelay, LowDelay};
+use crate::parameters::LowDelay;
 use crate::planes::zero_planes;
-use crate::slice::read_slice;
+use crate::reader::SliceReader;
 use coefficients::quantiser::factor_table;
 use component::parameters::Refused;
 use lookups::CodeTable;
@@ -47,36 +47,35 @@ pub fn unpack_low_delay(
         second,
     };
     zero_planes(&mut planes);
-    read_slices(CheckedLowDelay { parameters: p }, bytes, &mut planes)
-}
-
-// Reads the slices in raster order, and then predicts where the rules say so.
-fn read_slices(
-    p: CheckedLowDelay,
-    bytes: &[u8],
-    planes: &mut ThreePlanes<'_>,
-) -> Result<usize, Refused>
-    requires { Lengths p.parameters.picture planes.old.luma.now planes.old.first.now planes.old.second.now }
-    ensures same { SamePlanes planes.old planes.new }
-    ensures ended { outcome (answer_of result) planes.new.luma.now planes.new.first.now planes.new.second.now
-        ≡ slices_from p.parameters bytes.now (slice_count p.parameters.picture) 0 (planes_behind planes.old) }
-{
-    let mut run = [0; 8192];
+    let intra = p.picture.intra;
     let codes = CodeTable::new();
-    let intra = p.parameters.picture.intra;
     let mut small = [[0; 32]; 116];
     fill_small_table(&mut small, intra);
     let factors = factor_table();
     let tables = Tables::new(intra, &codes, &small, &factors);
-    let count = p.slice_count();
-    for k in 0..count {
-        if let Err(fault) = read_slice(planes, p, k, bytes, &mut run, tables) {
-            zero_planes(planes);
-            return Err(Refused {
-                refusal: fault.refusal,
-                place: k,
-            });
+    let reader = SliceReader { p, bytes, tables };
+    reader.read_slices(&mut planes)
+}
+
+impl SliceReader<'_, '_> {
+    // Reads the slices in raster order, and then predicts where the rules say so.
+    fn read_slices(self, planes: &mut ThreePlanes<'_>) -> Result<usize, Refused>
+        requires { Lengths self.p.picture planes.old.luma.now planes.old.first.now planes.old.second.now }
+        ensures same { SamePlanes planes.old planes.new }
+        ensures ended { outcome (answer_of result) planes.new.luma.now planes.new.first.now planes.new.second.now
+            ≡ slices_from self.entry.p self.entry.bytes.now (slice_count self.entry.p.picture) 0 (planes_behind planes.old) }
+    {
+        let mut run = [0; 8192];
+        let count = self.slice_count();
+        for k in 0..count {
+            if let Err(fault) = self.read_slice(planes, k, &mut run) {
+                zero_planes(planes);
+                return Err(Refused {
+                    refusal: fault.refusal,
+                    place: k,
+                });
+            }
         }
+        self.finish(planes)
     }
-    finish(p, planes)
 }

@@ -7,8 +7,8 @@ use Rattle.slices.specs.Stores.{planes_behind}
 use Rattle.slices.proofs.ReadsLaws.{blank-zeros, left-on}
 use Rattle.slices.proofs.StoresLaws.{same_planes-then}
 use Rattle.low_delay.specs.Job.{result, outcome}
-use Rattle.low_delay.proofs.JobLaws.{zeros_same, slices-read, slices-refused, slices-over}
-use Rattle.low_delay.proofs.read_slices.Goals as goal
+use Rattle.low_delay.proofs.JobLaws.{zeros-same, slices-read, slices-refused, slices-over}
+use Rattle.low_delay.proofs.reader.SliceReader.read_slices.Goals as goal
 
 pub loop-k-init : goal.loop-k-init
 loop-k-init c =
@@ -33,7 +33,7 @@ returns-in-Err-clause-ended c =
     let left : c.slice_count-count.result - c.loop-k.k ≡ suc (c.slice_count-count.result - suc c.loop-k.k) = omega (arith, c.loop-k-test) in
     let long = c.read_slice.ensures.same.1 in
     ap (result (number_of c.in-Err.fault.refusal) c.loop-k.k)
-    (c.zero_planes.ensures.zeroed ∙ zeros_same _ (planes_behind c.loop-k.planes) long.0 long.1 long.2)
+    (c.zero_planes.ensures.zeroed ∙ zeros-same _ (planes_behind c.loop-k.planes) long.0 long.1 long.2)
     ∙ sym (slices-refused _ _ c.loop-k.k _ _ _ _ _ left (sym c.in-Err.ensures.read.progress_is))
     ∙ sym c.loop-k.invariant.4 ∙ rw count refl
 
