@@ -1,11 +1,13 @@
 // A lifting step and a filter, as the passes run them.
-ghost use Rattle.std.specs.Prelude.{◌≡◌, ◌≤◌};
+ghost use Rattle.std.specs.Prelude.{◌≡◌, ℕ, ◌+◌, ◌^◌, ◌≤◌, ◌<◌, pos, nat_abs, get_or};
+ghost use Rattle.lines.specs.Buffers.{Symmetric};
+ghost use Rattle.lines.specs.Sums.{sizes_below};
 ghost use Rattle.filters.specs.Lifting.{rounding};
 
 // A lifting step: whether it changes the even elements, whether it adds, its first offset, its taps and its scale; and its gain, which is
 // the sum of its taps' sizes. The first offset D is counted from −3 where even elements change and from −4 where odd ones do, so that it is never
-// below 0. The taps are an array with its count beside it, and so are a filter's steps: no heap, and a step is handed on by value. That a step is
-// well-formed stays a clause: the definition `record_of` makes records of steps before anything is known of them, so no field can hold it.
+// below 0. The taps are an array with its count beside it, and so are a filter's steps: no heap, and a step is handed on by value. Its sizes keep
+// sums within 64 bits, and reads within the line buffer; its taps are one, or the same from both ends, and none of them is 0.
 #[derive(Clone, Copy)]
 pub struct LiftingStep {
     pub even: bool,
@@ -15,6 +17,15 @@ pub struct LiftingStep {
     pub count: usize,
     pub scale: u32,
     pub gain: u64,
+    pub ghost some_taps: { 1 ≤ count },
+    pub ghost few_taps: { count ≤ 8 },
+    pub ghost in_buffer: { lead + count ≤ 9 },
+    pub ghost small_scale: { scale ≤ 12 },
+    pub ghost small_taps: { (t : ℕ) → t < 8 → nat_abs (get_or taps t (pos 0)) ≤ 2 ^ 13 },
+    pub ghost real_taps: { (t : ℕ) → t < count → 1 ≤ nat_abs (get_or taps t (pos 0)) },
+    pub ghost symmetric: { Symmetric taps count },
+    pub ghost gain_exact: { gain ≡ sizes_below (λ t. get_or taps t (pos 0)) count },
+    pub ghost gain_most: { gain ≤ 2 ^ 14 },
 }
 
 // A filter: its steps, of which the first `count` are in use, and whether its shift is 1.
