@@ -9,7 +9,7 @@ use native.Mathlib.Nat.{le_refl, le_trans, le-div_iff_mul-le, mul-le-mul_left}
 use native.Mathlib.Omega.{arith}
 use lib.Dec.{ltb}
 use lib.IntN.{ℤ, pos, negsuc, nat_abs, ◌+ℤ◌, ◌*ℤ◌}
-use lib.ListN.{length, get_or, take}
+use lib.ListN.{get_or, take}
 use lib.Pow.{pow_pos}
 use borrow.Author.Tests.{ltb-true, lt-ltb, le-ltb}
 use Rattle.base.specs.Every.{all_below}
@@ -25,8 +25,9 @@ use Rattle.lines.proofs.SumsLaws.{sizes-front, sizes-product, sum-sizes}
 use Rattle.filters.specs.Lifting.{Step, changes_even, rounding}
 use Rattle.filters.specs.Filters.{filter_of, deslauriers_dubuc97, le_gall53, deslauriers_dubuc137, haar_steps, haar, haar_with_shift, fidelity, daubechies97}
 use Rattle.filters.specs.Bounds.{sum_most, new_most, stays_small, target_after, bound_of, source_bound, target_bound, bounds_after}
-use Rattle.filters.specs.Table.{step_of, sizes_of, gain_of}
-use Rattle.filters.specs.declared.filter.LiftingStep.{LiftingStep}
+use Rattle.filters.specs.Steps.{step_of}
+use Rattle.filters.specs.Table.{sizes_of, gain_of}
+use Rattle.filters.specs.declared.step.LiftingStep.{LiftingStep}
 use Rattle.filters.specs.declared.bounds.Bounds.{Bounds}
 use Rattle.filters.proofs.LiftingLaws.{rounding-most}
 use Rattle.filters.proofs.TableLaws.{type-says}

@@ -20,9 +20,10 @@ use Rattle.base.proofs.Booleans.{and_left, and_right}
 use Rattle.filters.specs.Lifting.{Step, StepType, type1, type2, type3, type4, changes, changes_even, adds}
 use Rattle.filters.specs.Filters.{filter_table, filter_of, deslauriers_dubuc97, le_gall53, deslauriers_dubuc137, haar_steps, haar, haar_with_shift, fidelity, daubechies97}
 use Rattle.filters.specs.Passes.{Pass, Picture, rows, run, run_all, assigns, new_fit, all_new_fit}
-use Rattle.filters.specs.Table.{listed_type, listed_step, table_steps, listed_filter, type_of, step_of, lead_of, WellFormedRow, filter_from, changed_by_some, WellFormed, RowListed, FilterListed, StepsListed, FiltersListed, StepAt, StepsFrom}
+use Rattle.filters.specs.Steps.{type_of, step_of, steps_in_use, changed_by_some}
+use Rattle.filters.specs.Table.{listed_type, listed_step, table_steps, listed_filter, lead_of, WellFormedRow, filter_from, RowListed, FilterListed, StepsListed, FiltersListed, StepAt, StepsFrom}
 use Rattle.filters.specs.declared.filter.LiftingFilter.{LiftingFilter}
-use Rattle.filters.specs.declared.filter.LiftingStep.{LiftingStep}
+use Rattle.filters.specs.declared.step.LiftingStep.{LiftingStep}
 use Rattle.filters.specs.declared.table.TableFilter.{TableFilter}
 use Rattle.filters.specs.declared.table.TableStep.{TableStep}
 use Rattle.base.specs.Range.{fits32}
@@ -225,21 +226,24 @@ first-of [] some = absurd (omega arith)
 first-of (x ∷ xs) some = x
 
 -- the steps in use of a filter: so many, and each its own
-module _ (f : LiftingFilter) (there : f.count ≤ length f.steps) where
-  steps-counted : length (filter_from f).steps ≡ f.count
-  steps-counted = rw (length-map, length-take f.count f.steps) (omega arith)
+steps-counted : (count : ℕ) (steps : List LiftingStep) → count ≤ length steps → length (steps_in_use count steps) ≡ count
+steps-counted count steps there = rw (length-map, length-take count steps) (omega arith)
+
+module _ (f : LiftingFilter) where
+  filter-counted : length (filter_from f).steps ≡ f.count
+  filter-counted = steps-counted f.count f.steps f.there
 
   step-in-use : (k : ℕ) (other : LiftingStep) → k < f.count →
       get_or (filter_from f).steps k (step_of (get_or f.steps k other)) ≡ step_of (get_or f.steps k other)
   step-in-use k other below =
-      any-default (map step_of (take f.count f.steps)) k (step_of (get_or f.steps k other)) (step_of other) (omega (arith, steps-counted))
+      any-default (map step_of (take f.count f.steps)) k (step_of (get_or f.steps k other)) (step_of other) (omega (arith, filter-counted))
       ∙ get_or-map step_of (take f.count f.steps) k other
       ∙ ap step_of (get_or-take f.count f.steps k other below)
 
   -- as passes
   module _ (pass : Step → Pass) where
     pub passes-counted : length (map pass (filter_from f).steps) ≡ f.count
-    passes-counted = length-map (filter_from f).steps pass ∙ steps-counted
+    passes-counted = length-map (filter_from f).steps pass ∙ filter-counted
 
     pub pass-inside : (k : ℕ) → k < f.count → k < length (map pass (filter_from f).steps)
     pass-inside k below = rw passes-counted below
@@ -265,41 +269,35 @@ all_changed wavelet x known =
     (all-at (λ w. all_below 2 (changed_by_some (filter_of w).steps)) 7 wavelet refl (omega arith))
     (omega arith)
 
--- records of the steps that the table lists for a wavelet index, in a record
+-- records of the steps that the table lists for a wavelet index
 module _ (wavelet : ℕ) (known : wavelet ≤ 6) (row : TableFilter) (listed : FilterListed wavelet row)
-    (f : LiftingFilter) (count : f.count ≡ row.1) (shift : f.shift ≡ row.2) (steps : StepsFrom row.0 row.1 f.steps) (four : length f.steps ≡ 4) where
-  there : f.count ≤ length f.steps
+    (records : List LiftingStep) (steps : StepsFrom row.0 row.1 records) (four : length records ≡ 4) where
+  there : row.1 ≤ length records
   there = omega (arith, listed.few)
 
   taken : length (take row.1 (drop row.0 table_steps)) ≡ row.1
   taken = simp (length-take, length-drop) (omega (arith, listed.inside, table-length))
 
-  same-steps : (filter_from f).steps ≡ take row.1 (drop row.0 table_steps)
+  same-steps : steps_in_use row.1 records ≡ take row.1 (drop row.0 table_steps)
   same-steps =
-      ext_get_or (step_of sample) (filter_from f).steps (take row.1 (drop row.0 table_steps))
-      (steps-counted f there ∙ count ∙ sym taken)
+      ext_get_or (step_of sample) (steps_in_use row.1 records) (take row.1 (drop row.0 table_steps))
+      (steps-counted row.1 records there ∙ sym taken)
       (λ k inside.
-      let below : k < f.count = omega (arith, steps-counted f there) in
-      let here : k < row.1 = omega arith in
-      get_or-map step_of (take f.count f.steps) k sample
-      ∙ ap step_of (get_or-take f.count f.steps k sample below)
+      let here : k < row.1 = omega (arith, steps-counted row.1 records there) in
+      get_or-map step_of (take row.1 records) k sample
+      ∙ ap step_of (get_or-take row.1 records k sample here)
       ∙ sym (steps k sample here (step_of sample))
       ∙ sym (get_or-take row.1 (drop row.0 table_steps) k (step_of sample) here ∙ get_or-drop row.0 table_steps k (step_of sample)))
     where
       sample : LiftingStep
-      sample = first-of f.steps (omega (arith, four))
+      sample = first-of records (omega (arith, four))
 
-  pub same-filter : filter_from f ≡ filter_of wavelet
+  pub same-filter : record { steps = steps_in_use row.1 records; shift = row.2 } ≡ filter_of wavelet
   unfolding listed_filter
-  same-filter = rw (same-steps, shift) listed.same
+  same-filter = rw same-steps listed.same
 
-  pub well_formed : WellFormed f
-  well_formed =
-      record {
-        few = omega (arith, listed.few);
-        there = there;
-        all_changed = λ x. rw (ap (λ g. g.steps) same-filter) (all_changed wavelet x known);
-      }
+  pub filter-changes : (x : ℕ) → changed_by_some (steps_in_use row.1 records) x ≡ true
+  filter-changes x = rw (ap (λ g. g.steps) same-filter) (all_changed wavelet x known)
 
 -- the type of a step says what it was made from
 pub type-says : (even added : Bool) → (changes_even (type_of even added) ≡ even) × (adds (type_of even added) ≡ added)

@@ -1,13 +1,14 @@
--- The code's own forms: the table of steps, the step that each row of it stands for, and a step and a filter as the passes run them. The filters
--- that they are tied to stand in Filters.antt.
-use Rattle.std.specs.Prelude.{◌≡◌, ℕ, ◌+◌, ◌^◌, ◌≤◌, ◌<◌, Bool, true, false, cond, ◌||◌, List, [], ◌∷◌, ◌++◌, map, ℤ, pos, ◌+ℤ◌, ◌-ℤ◌, nat_abs, length, get_or, take, drop}
+-- The code's own forms: the table of steps, the step that each row of it stands for, and a filter as the passes run it. The filters that they are
+-- tied to stand in Filters.antt.
+use Rattle.std.specs.Prelude.{◌≡◌, ℕ, ◌+◌, ◌^◌, ◌≤◌, ◌<◌, Bool, cond, List, [], ◌∷◌, ◌++◌, ℤ, pos, ◌+ℤ◌, nat_abs, get_or, take, drop}
 use Rattle.std.specs.Int.Signed.{mag}
 use Rattle.lines.specs.Buffers.{Symmetric}
 use Rattle.lines.specs.Sums.{sizes_below}
-use Rattle.filters.specs.Lifting.{Step, StepType, type1, type2, type3, type4, changes_even, adds, changes}
+use Rattle.filters.specs.Lifting.{Step, StepType, type1, type2, type3, type4, changes_even}
 use Rattle.filters.specs.Filters.{Filter, filter_of, deslauriers_dubuc97, le_gall53, deslauriers_dubuc137, haar_steps, fidelity, daubechies97}
+use Rattle.filters.specs.Steps.{step_of, steps_in_use}
 use Rattle.filters.specs.declared.filter.LiftingFilter.{LiftingFilter}
-use Rattle.filters.specs.declared.filter.LiftingStep.{LiftingStep}
+use Rattle.filters.specs.declared.step.LiftingStep.{LiftingStep}
 use Rattle.filters.specs.declared.table.Kind.{Kind}
 use Rattle.filters.specs.declared.table.Kind.TheVariants.{One, Two, Three, Four}
 use Rattle.filters.specs.declared.table.TableFilter.{TableFilter}
@@ -30,23 +31,6 @@ table_steps =
 
 unfoldable pub listed_filter : TableFilter → Filter
 listed_filter row = record { steps = take row.1 (drop row.0 table_steps); shift = row.2 }
-
--- A step's type, from the elements that it changes and whether it adds.
-unfoldable pub type_of : Bool → Bool → StepType
-type_of true true = type1
-type_of true false = type2
-type_of false true = type3
-type_of false false = type4
-
--- The step that a record stands for. `lead` is the first offset D, counted from −3 where even elements change and from −4 where odd ones do.
-unfoldable pub step_of : LiftingStep → Step
-step_of r =
-    record {
-      type = type_of r.even r.adds;
-      first = pos r.lead -ℤ pos (cond r.even 3 4);
-      taps = take r.count r.taps;
-      scale = r.scale;
-    }
 
 -- The gain of a step: the sum of its taps' sizes.
 unfoldable pub sizes_of : List ℤ → ℕ
@@ -72,22 +56,8 @@ pub record WellFormedRow (row : TableStep) : Type 0 where
   pub real_taps : (t : ℕ) → t < row.3 → 1 ≤ nat_abs (get_or row.2 t (pos 0))
 
 -- The filter that a record stands for: the steps in use, and the shift.
-abbrev pub steps_in_use : ℕ → List LiftingStep → List Step
-steps_in_use count steps = map step_of (take count steps)
-
 abbrev pub filter_from : LiftingFilter → Filter
 filter_from f = record { steps = steps_in_use f.count f.steps; shift = f.shift }
-
--- Whether some of the steps changes an element.
-unfoldable pub changed_by_some : List Step → ℕ → Bool
-changed_by_some [] x = false
-changed_by_some (s ∷ ss) x = changes s.type x || changed_by_some ss x
-
--- There are so many steps, four at most, and every element of a line is changed by one.
-pub record WellFormed (f : LiftingFilter) : Type 0 where
-  pub few : f.count ≤ 4
-  pub there : f.count ≤ length f.steps
-  pub all_changed : (x : ℕ) → changed_by_some (filter_from f).steps x ≡ true
 
 -- A row of the table lists document 01's step i, and a record can be made of it.
 pub record RowListed (i : ℕ) (row : TableStep) : Type 0 where

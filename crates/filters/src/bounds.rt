@@ -2,7 +2,7 @@
 ghost use Rattle.std.specs.Prelude.{◌≡◌, ◌≤◌, ◌^◌, ltb};
 ghost use Rattle.filters.specs.Bounds.{BoundsFit, stays_small, target_after, source_bound, target_bound, bounds_after};
 
-use crate::filter::LiftingStep;
+use crate::step::LiftingStep;
 
 // How large the numbers at the even and at the odd elements of a pass may be.
 #[derive(Clone, Copy)]

@@ -4,9 +4,11 @@ ghost use Rattle.std.specs.Int.Signed.{mag};
 ghost use Rattle.lines.specs.Sums.{sizes_below};
 ghost use Rattle.filters.specs.Lifting.{changes_even, adds};
 ghost use Rattle.filters.specs.Filters.{filter_of};
-ghost use Rattle.filters.specs.Table.{listed_type, listed_step, StepsListed, FiltersListed, lead_of, step_of, StepsFrom, WellFormedRow, WellFormed, filter_from};
+ghost use Rattle.filters.specs.Steps.{step_of};
+ghost use Rattle.filters.specs.Table.{listed_type, listed_step, StepsListed, FiltersListed, lead_of, StepsFrom, WellFormedRow, filter_from};
 
-use crate::filter::{LiftingFilter, LiftingStep};
+use crate::filter::LiftingFilter;
+use crate::step::LiftingStep;
 
 // The four types of step.
 #[derive(Clone, Copy)]
@@ -82,7 +84,7 @@ const FILTERS: [TableFilter; 7] = [
 // The filter of a wavelet index.
 pub fn filter_of(wavelet: usize) -> LiftingFilter
     requires { wavelet ≤ 6 }
-    ensures { (filter_from result ≡ filter_of wavelet) × WellFormed result }
+    ensures { filter_from result ≡ filter_of wavelet }
 {
     let table = table_filters();
     let TableFilter(start, count, shift) = table[wavelet];

@@ -21,9 +21,9 @@ use Rattle.filters.specs.Pictures.{target_row, source_row}
 use Rattle.lifting.specs.Layout.{base_of}
 use Rattle.filters.specs.Bounds.{bound_of, source_bound, target_bound, bounds_after}
 use Rattle.lifting.specs.LineBounds.{HalvesWithin}
-use Rattle.filters.specs.Table.{type_of, step_of, WellFormedStep}
+use Rattle.filters.specs.Steps.{type_of, step_of}
 use Rattle.lifting.specs.Lines.{line_new, LineLifted}
-use Rattle.filters.specs.declared.filter.LiftingStep.{LiftingStep}
+use Rattle.filters.specs.declared.step.LiftingStep.{LiftingStep}
 use Rattle.filters.specs.declared.bounds.Bounds.{Bounds}
 use Rattle.filters.proofs.LiftingLaws.{lift-keeps}
 use Rattle.lines.proofs.SumsLaws.{sum_same}

@@ -16,9 +16,9 @@ use Rattle.lines.specs.Sums.{tap_at}
 use Rattle.filters.specs.Lifting.{lift}
 use Rattle.filters.specs.Pictures.{target_row, source_row}
 use Rattle.filters.specs.Planes.{picture_of}
-use Rattle.filters.specs.Table.{step_of}
+use Rattle.filters.specs.Steps.{step_of}
 use Rattle.lifting.specs.Lines.{line_new, LineInside, LineLifted}
-use Rattle.filters.specs.declared.filter.LiftingStep.{LiftingStep}
+use Rattle.filters.specs.declared.step.LiftingStep.{LiftingStep}
 use Rattle.lines.proofs.SumsLaws.{sum_same}
 use Rattle.filters.proofs.PicturesLaws.{lift-at-target}
 

@@ -15,7 +15,7 @@ use Rattle.base.proofs.Parity.{all-pairs}
 use Rattle.lifting.specs.Layout.{FrameFits, frame_picture, numbers_fit}
 use Rattle.filters.specs.Passes.{Picture, rows, all_new_fit}
 use Rattle.filters.specs.Planes.{picture_of}
-use Rattle.filters.specs.Table.{WellFormed, filter_from}
+use Rattle.filters.specs.Table.{filter_from}
 use Rattle.lifting.specs.declared.frame.Frame.{Frame}
 use Rattle.filters.specs.declared.filter.LiftingFilter.{LiftingFilter}
 use Rattle.filters.proofs.PassesLaws.{rows-new-all}

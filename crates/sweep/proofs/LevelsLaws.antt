@@ -13,7 +13,7 @@ use Rattle.base.proofs.Booleans.{and-true, and-false}
 use Rattle.lifting.specs.Layout.{FrameFits, AgreeOn, frame_picture, numbers_fit}
 use Rattle.filters.specs.Passes.{Picture, columns, rows}
 use Rattle.filters.specs.Planes.{picture_of}
-use Rattle.filters.specs.Table.{WellFormed, filter_from}
+use Rattle.filters.specs.Table.{filter_from}
 use Rattle.filters.specs.Pictures.{Agree, target_row}
 use Rattle.lifting.specs.declared.frame.Frame.{Frame}
 use Rattle.filters.specs.declared.filter.LiftingFilter.{LiftingFilter}

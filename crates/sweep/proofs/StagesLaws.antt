@@ -20,7 +20,8 @@ use Rattle.base.specs.Range.{fits32}
 use Rattle.base.proofs.EveryLaws.{all-at, all_from}
 use Rattle.lifting.specs.Layout.{run_on, numbers_fit, frame_picture}
 use Rattle.filters.specs.Passes.{Picture, Pass, columns, run, run_all, new_fit}
-use Rattle.filters.specs.Table.{step_of, WellFormed, filter_from}
+use Rattle.filters.specs.Steps.{step_of}
+use Rattle.filters.specs.Table.{filter_from}
 use Rattle.lifting.specs.declared.frame.Frame.{Frame}
 use Rattle.filters.specs.declared.filter.LiftingFilter.{LiftingFilter}
 use Rattle.filters.proofs.PassesLaws.{run_all-append, each-pass, all-passes}

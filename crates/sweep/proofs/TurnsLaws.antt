@@ -15,8 +15,8 @@ use lib.ListN.{get_or}
 use Rattle.lines.proofs.SumsLaws.{sum_same}
 use Rattle.filters.specs.Lifting.{lift}
 use Rattle.filters.specs.Passes.{Picture, columns, run}
-use Rattle.filters.specs.Table.{step_of, WellFormedStep}
-use Rattle.filters.specs.declared.filter.LiftingStep.{LiftingStep}
+use Rattle.filters.specs.Steps.{step_of}
+use Rattle.filters.specs.declared.step.LiftingStep.{LiftingStep}
 use Rattle.filters.proofs.LiftingLaws.{lift-keeps}
 use Rattle.filters.specs.Pictures.{target_row, source_row}
 use Rattle.base.specs.Fill.{fill}

@@ -3,11 +3,11 @@
 use Rattle.std.specs.Prelude.{◌≡◌, Bool, false, cond, List, [], ℕ, zero, suc, ◌+◌, ◌-◌, ◌*◌, ◌≤◌, ◌<◌, min, leb, eqb, ℤ, get_or}
 use Rattle.lifting.specs.Layout.{frame_picture}
 use Rattle.filters.specs.Passes.{Picture, columns, run}
-use Rattle.filters.specs.Table.{step_of}
+use Rattle.filters.specs.Steps.{step_of}
 use Rattle.filters.specs.Pictures.{target_row}
 use Rattle.lifting.specs.declared.frame.Frame.{Frame}
 use Rattle.filters.specs.declared.filter.LiftingFilter.{LiftingFilter}
-use Rattle.filters.specs.declared.filter.LiftingStep.{LiftingStep}
+use Rattle.filters.specs.declared.step.LiftingStep.{LiftingStep}
 
 -- A pair of rows goes from stage to stage: at stage 0 it is as it came, at stage 1 its bands are interleaved, at stage n + 1 it has had n steps,
 -- and at the last stage its rows are filtered. Each turn of the sweep brings eight pairs to each stage, `gap` pairs behind the stage before.

@@ -1,9 +1,9 @@
 // How far apart the stages of a sweep are.
 ghost use Rattle.std.specs.Prelude.{◌+◌, ◌≤◌};
-ghost use Rattle.filters.specs.Table.{WellFormedStep, WellFormed};
 ghost use Rattle.sweep.specs.Stages.{Spaced};
 
-use filters::filter::{LiftingFilter, LiftingStep};
+use filters::filter::LiftingFilter;
+use filters::step::LiftingStep;
 
 // How many pairs of rows a stage stays behind the one before, so that no step of the filter reads a pair that has not come to it yet or has gone on.
 pub fn gap_of(filter: LiftingFilter) -> usize

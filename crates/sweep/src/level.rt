@@ -2,7 +2,6 @@
 ghost use Rattle.std.specs.Prelude.{◌≡◌, true, ◌≤◌, is_ok};
 ghost use Rattle.lifting.specs.Layout.{FrameFits, AgreeOn, frame_picture};
 ghost use Rattle.filters.specs.Planes.{picture_of};
-ghost use Rattle.filters.specs.Table.{WellFormed};
 ghost use Rattle.filters.specs.Pictures.{Agree};
 ghost use Rattle.sweep.specs.Bands.{BandsInside};
 ghost use Rattle.sweep.specs.Pairs.{Tells, EachPair, FramePut};

@@ -1,7 +1,6 @@
 // The last stage of a sweep: the rows of a pair are filtered, in place or into the samples.
 ghost use Rattle.std.specs.Prelude.{◌≡◌, true, ◌*◌, ◌<◌, is_ok};
 ghost use Rattle.base.specs.Fill.{fill};
-ghost use Rattle.filters.specs.Table.{WellFormed};
 ghost use Rattle.lifting.specs.Layout.{FrameFits};
 ghost use Rattle.sweep.specs.Rows.{RowInside, row_fits, pair_fits};
 ghost use Rattle.sweep.specs.LastStage.{RowRoom, rows_left, pair_left, row_kept, samples_left};

@@ -3,7 +3,6 @@ ghost use Rattle.std.specs.Prelude.{◌≡◌, true, ℕ, suc, ◌≤◌, ◌<�
 ghost use Rattle.lifting.specs.Layout.{FrameFits};
 ghost use Rattle.filters.specs.Passes.{Picture};
 ghost use Rattle.filters.specs.Bounds.{BoundsFit};
-ghost use Rattle.filters.specs.Table.{WellFormedStep, WellFormed};
 ghost use Rattle.lifting.specs.LineBounds.{StepRowsWithin};
 ghost use Rattle.lifting.specs.Lines.{new_row_fits};
 ghost use Rattle.sweep.specs.Pairs.{Tells, EachPair, FramePut};
@@ -12,7 +11,8 @@ ghost use Rattle.sweep.specs.Turns.{Bounded, TurnFits, stepped};
 
 use base::status::OutOfRange;
 use filters::bounds::{Bounds, bounds_after};
-use filters::filter::{LiftingFilter, LiftingStep};
+use filters::filter::LiftingFilter;
+use filters::step::LiftingStep;
 use lifting::columns::lift_row;
 use lifting::frame::Frame;
 

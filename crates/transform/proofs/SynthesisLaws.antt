@@ -29,7 +29,7 @@ use Rattle.base.specs.Range.{fits32}
 use Rattle.base.proofs.Parity.{even-test, odd-test}
 use Rattle.lines.specs.Buffers.{shifted}
 use Rattle.filters.specs.Lifting.{Step}
-use Rattle.filters.specs.Table.{WellFormed, filter_from}
+use Rattle.filters.specs.Table.{filter_from}
 use Rattle.filters.specs.declared.filter.LiftingFilter.{LiftingFilter}
 use Rattle.filters.proofs.TableLaws.{filter-fits}
 use Rattle.sweep.specs.Rows.{halved_of, both_fit, by_columns, by_rows}

@@ -1,7 +1,6 @@
 // Document 01, "Synthesis and analysis": the levels of synthesis, in the work plane, and the last of them into the samples.
 ghost use Rattle.std.specs.Prelude.{◌≡◌, true, suc, ◌-◌, ◌*◌, ◌^◌, ◌≤◌, is_ok, OnOk};
 ghost use Rattle.component.specs.Sizes.{size_at};
-ghost use Rattle.filters.specs.Table.{WellFormed};
 ghost use Rattle.transform.specs.Geometry.{Planes, coefficient_picture, picture_at, first_bad_at, level_input, level_picture, level_numbers_fit, TellsBad, Stands};
 
 use crate::bands::copy_rows;

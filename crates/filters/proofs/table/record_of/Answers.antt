@@ -2,7 +2,7 @@
 use native.Mathlib.Omega.{arith}
 use mir.Syntax.{w64}
 use Rattle.base.proofs.RangeLaws.{back}
-use Rattle.filters.specs.Table.{step_of}
+use Rattle.filters.specs.Steps.{step_of}
 use Rattle.filters.proofs.TableLaws.{step-made}
 use Rattle.filters.proofs.table.record_of.Goals as goal
 

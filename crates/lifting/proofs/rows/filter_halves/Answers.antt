@@ -8,8 +8,9 @@ use lib.Seq.{take_all}
 use Rattle.std.proofs.lemmas.List.{get_or-take, length-take}
 use Rattle.std.proofs.lemmas.Result.{err_from_is_err_and}
 use Rattle.filters.specs.Passes.{rows, run, run_all, all_new_fit}
-use Rattle.filters.specs.Table.{step_of, WellFormedStep, filter_from}
-use Rattle.filters.specs.declared.filter.LiftingStep.{LiftingStep}
+use Rattle.filters.specs.Steps.{step_of}
+use Rattle.filters.specs.Table.{filter_from}
+use Rattle.filters.specs.declared.step.LiftingStep.{LiftingStep}
 use Rattle.filters.proofs.PassesLaws.{passes-more, passes-stop, rows_same}
 use Rattle.filters.proofs.LiftingLaws.{twice-length}
 use Rattle.filters.proofs.TableLaws.{passes-counted, pass-inside, pass-in-use}

@@ -4,7 +4,7 @@ use native.Mathlib.Decide.{dec_lt}
 use native.Mathlib.Omega.{arith}
 use lib.ListN.{get_or, take}
 use Rattle.std.proofs.lemmas.List.{get_or-take, length-take}
-use Rattle.filters.specs.declared.filter.LiftingStep.{LiftingStep}
+use Rattle.filters.specs.declared.step.LiftingStep.{LiftingStep}
 use Rattle.sweep.proofs.gaps.gap_of.Goals as goal
 use Rattle.sweep.proofs.gaps.gap_of.Goals.{In-loop-step}
 

@@ -10,9 +10,8 @@ use Rattle.std.proofs.lemmas.List.{get_or-take, length-take}
 use Rattle.std.proofs.lemmas.Result.{err_from_is_err_and}
 use Rattle.filters.specs.Bounds.{bounds_after}
 use Rattle.filters.specs.Passes.{Picture}
-use Rattle.filters.specs.Table.{WellFormedStep}
 use Rattle.filters.proofs.BoundsLaws.{bounds-most}
-use Rattle.filters.specs.declared.filter.LiftingStep.{LiftingStep}
+use Rattle.filters.specs.declared.step.LiftingStep.{LiftingStep}
 use Rattle.lifting.specs.Layout.{FrameFits}
 use Rattle.lifting.specs.Lines.{new_row_fits}
 use Rattle.lifting.proofs.LayoutLaws.{frame-fits-same}
