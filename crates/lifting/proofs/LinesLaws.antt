@@ -71,7 +71,6 @@ module _
     pub part-inside : LineInside r moved work (start + before) part
     part-inside =
         record {
-          formed = line.formed;
           width_most = omega (arith, line.width_most);
           inside = rw long (omega (arith, line.inside));
           sources_inside = λ t h. rw (on t h, long) (omega (arith, line.sources_inside t h));

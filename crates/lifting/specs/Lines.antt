@@ -21,7 +21,6 @@ line_new r starts plane start x =
 
 -- A line that a step can be run on: it and those that its taps read are inside the plane, and it is apart from them.
 pub record LineInside (r : LiftingStep) (starts : List ℕ) (plane : List ℤ) (start width : ℕ) : Type 0 where
-  pub formed : WellFormedStep r
   pub width_most : width ≤ 4096
   pub inside : start + width ≤ length plane
   pub sources_inside : (t : ℕ) → t < r.count → get_or starts t 0 + width ≤ length plane

@@ -23,7 +23,7 @@ pub fn lift_row(
     step: LiftingStep,
     bounds: Bounds,
 ) -> Result<(), OutOfRange>
-    requires frame_fits { FrameFits frame work.old × WellFormedStep step × (k < frame.band_rows) × BoundsFit bounds }
+    requires frame_fits { FrameFits frame work.old × (k < frame.band_rows) × BoundsFit bounds }
     requires step_rows_within { StepRowsWithin frame step k bounds work.old }
     ensures told { is_ok result ≡ new_row_fits frame step work.old k }
     ensures done { is_ok result ≡ true → work.new

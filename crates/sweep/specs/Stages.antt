@@ -34,7 +34,7 @@ Staged pairs gap reach T = (stage k : ℕ) (even : Bool) → k < pairs → At ga
 
 -- Step i of a filter.
 abbrev pub step_at : LiftingFilter → ℕ → LiftingStep
-step_at f i = get_or f.steps i (record { even = false; adds = false; lead = 0; taps = []; count = 0; scale = 0; gain = 0 })
+step_at f i = get_or f.steps i one_tap
 
 -- No step reads farther than `gap` pairs from the pair that it changes.
 abbrev pub Spaced : LiftingFilter → ℕ → Type 0
