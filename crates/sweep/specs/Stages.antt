@@ -3,7 +3,7 @@
 use Rattle.std.specs.Prelude.{◌≡◌, Bool, false, cond, List, [], ℕ, zero, suc, ◌+◌, ◌-◌, ◌*◌, ◌≤◌, ◌<◌, min, leb, eqb, ℤ, get_or}
 use Rattle.lifting.specs.Layout.{frame_picture}
 use Rattle.filters.specs.Passes.{Picture, columns, run}
-use Rattle.filters.specs.Steps.{step_of}
+use Rattle.filters.specs.Steps.{step_of, one_tap}
 use Rattle.filters.specs.Pictures.{target_row}
 use Rattle.lifting.specs.declared.frame.Frame.{Frame}
 use Rattle.filters.specs.declared.filter.LiftingFilter.{LiftingFilter}
