@@ -1,6 +1,6 @@
 -- Laws of the job: what the checks' answer says of the parameters and the planes, and how a call ends after all slices.
 -- Assumes nothing.
-use mathlib.Core.Path.{◌≡◌, refl, sym, ◌∙◌}
+use mathlib.Core.Path.{◌≡◌, refl}
 use mathlib.Core.Bool.{Bool, true, false, not, cond, ◌&&◌}
 use mathlib.Core.Logic.{◌≢◌}
 use mathlib.Core.List.{List}
@@ -11,9 +11,6 @@ use lib.Dec.{leb, eqb}
 use lib.IntN.{ℤ}
 use lib.ListN.{length}
 use borrow.Author.Tests.{leb-true, eqb-true, ne_eqb}
-use Rattle.base.specs.Refusals.{number_of}
-use Rattle.base.specs.declared.status.Refusal.{Refusal}
-use Rattle.base.specs.declared.status.Refusal.TheVariants.{Size, Depth, Wavelet, Codeblocks, Planes as PlanesRefused, BytesEndEarly, CodeTooLong, Quantiser, ValueOutOfRange, SynthesisOutOfRange, BytesLeftOver, Slices, LumaLength}
 use Rattle.base.proofs.Booleans.{and_left, and_right}
 use Rattle.base.proofs.ListsLaws.{zeros-length}
 use Rattle.component.specs.Checks.{in_range}
@@ -27,9 +24,9 @@ use Rattle.slices.specs.Bounds.{Checked, Lengths, Whole}
 use Rattle.slices.specs.declared.parameters.Picture.{Picture}
 use Rattle.slices.specs.declared.parameters.Grid.{Grid}
 use Rattle.slices.proofs.AreasLaws.{band-placed}
-use Rattle.low_delay.specs.Slices.{slice_start, slice}
-use Rattle.low_delay.specs.Job.{LowDelayResult, result, sizes_in_range, counts_in_range, fraction_in_range, matrix_in_range, slices_in_range, entries_of, planes_fit, refusal_of, accepted, predicted, finished, after_slice, slices_from, unpacked}
-use Rattle.low_delay.specs.Bounds.{SoundFraction, prediction_fits, predicted_planes}
+use Rattle.low_delay.specs.Slices.{slice}
+use Rattle.low_delay.specs.Job.{result, sizes_in_range, counts_in_range, fraction_in_range, matrix_in_range, slices_in_range, entries_of, planes_fit, refusal_of, finished, after_slice, slices_from, unpacked}
+use Rattle.low_delay.specs.Bounds.{SoundFraction}
 use Rattle.low_delay.specs.declared.parameters.LowDelay.{LowDelay}
 
 -- a picture that passes its checks
@@ -57,9 +54,9 @@ checked p sizes depth counts =
     }
 
 module _ (p : LowDelay) (passes : slices_in_range p ≡ true) where
-  pub counts-pass : counts_in_range p.picture ≡ true
+  pub counts_pass : counts_in_range p.picture ≡ true
   unfolding slices_in_range
-  counts-pass =
+  counts_pass =
       let counts = counts_in_range p.picture in
       and_left counts (fraction_in_range p) (and_left (counts && fraction_in_range p) (matrix_in_range p.picture) passes)
 
@@ -115,41 +112,13 @@ module _ (p : LowDelay) (planes : Planes) where
       by true true false fit s d k f e = absurd (omega arith)
       by true true true false s d k f e = absurd (omega arith)
       by true true true true s d k f e =
-          record { picture = checked p.picture s d (counts-pass p k); fraction = fraction_sound p k; lengths = planes-long p.picture planes f }
+          record { picture = checked p.picture s d (counts_pass p k); fraction = fraction_sound p k; lengths = planes-long p.picture planes f }
 
 -- zeros depend on the lengths alone
-pub zeros-same : (a b : Planes) → length a.luma ≡ length b.luma → length a.first ≡ length b.first → length a.second ≡ length b.second →
+pub zeros_same : (a b : Planes) → length a.luma ≡ length b.luma → length a.first ≡ length b.first → length a.second ≡ length b.second →
     zeros a ≡ zeros b
 unfolding zeros
-zeros-same a b luma first second = rw (zeros-length a.luma b.luma luma, zeros-length a.first b.first first, zeros-length a.second b.second second)
-
--- what a test chooses
-first-chosen : (test : Bool) (a b : LowDelayResult) → test ≡ true → a ≡ cond test a b
-first-chosen test a b e = rw e
-
-second-chosen : (test : Bool) (a b : LowDelayResult) → test ≡ false → b ≡ cond test a b
-second-chosen test a b e = rw e
-
--- after all slices: accepted, predicted and accepted, or a predicted value that does not fit
-module _ (p : LowDelay) (planes : Planes) where
-  pub finished-inter : p.picture.intra ≡ false → result 0 (slice_start p (slice_count p.picture)) planes ≡ finished p planes
-  unfolding finished accepted
-  finished-inter inter = second-chosen p.picture.intra (predicted p planes) (accepted p planes) inter
-
-  module _ (intra : p.picture.intra ≡ true) where
-    finished-predicted : predicted p planes ≡ finished p planes
-    unfolding finished
-    finished-predicted = first-chosen p.picture.intra (predicted p planes) (accepted p planes) intra
-
-    pub finished-intra : true ≡ prediction_fits p.picture planes → result 0 (slice_start p (slice_count p.picture)) (predicted_planes p.picture planes) ≡ finished p planes
-    unfolding predicted accepted prediction_fits predicted_planes
-    finished-intra all =
-        first-chosen (prediction_fits p.picture planes) (accepted p (predicted_planes p.picture planes)) _ (sym all) ∙ finished-predicted
-
-    pub finished-out : false ≡ prediction_fits p.picture planes → result 9 (slice_count p.picture) (zeros planes) ≡ finished p planes
-    unfolding predicted prediction_fits predicted_planes
-    finished-out some =
-        second-chosen (prediction_fits p.picture planes) (accepted p (predicted_planes p.picture planes)) _ (sym some) ∙ finished-predicted
+zeros_same a b luma first second = rw (zeros-length a.luma b.luma luma, zeros-length a.first b.first first, zeros-length a.second b.second second)
 
 -- level 0 of a component lies in its plane
 pub low-inside : (g : Grid) → Whole g → (plane : List ℤ) → length plane ≡ g.width * g.height → (low : Subband) → low ≡ subband_at g.depth g.width g.height 0 →
@@ -175,22 +144,6 @@ module _ (p : LowDelay) (bytes : List ℕ) (k : ℕ) (planes : Planes) where
   pub slices-over : (left : ℕ) → left ≡ 0 → slices_from p bytes left k planes ≡ finished p planes
   unfolding slices_from
   slices-over left none = rw none refl
-
--- no refusal has the number 0
-pub refusal-some : (r : Refusal) → number_of r ≢ 0
-refusal-some Size e = omega (arith, e)
-refusal-some Depth e = omega (arith, e)
-refusal-some Wavelet e = omega (arith, e)
-refusal-some Codeblocks e = omega (arith, e)
-refusal-some PlanesRefused e = omega (arith, e)
-refusal-some BytesEndEarly e = omega (arith, e)
-refusal-some CodeTooLong e = omega (arith, e)
-refusal-some Quantiser e = omega (arith, e)
-refusal-some ValueOutOfRange e = omega (arith, e)
-refusal-some SynthesisOutOfRange e = omega (arith, e)
-refusal-some BytesLeftOver e = omega (arith, e)
-refusal-some Slices e = omega (arith, e)
-refusal-some LumaLength e = omega (arith, e)
 
 -- the job: a check refuses it, or its slices are read over zeros
 module _ (p : LowDelay) (bytes : List ℕ) (planes : Planes) where

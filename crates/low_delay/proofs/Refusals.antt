@@ -29,7 +29,7 @@ use Rattle.low_delay.specs.Slices.{slice_start, slice_size, length_bits, low_del
 use Rattle.low_delay.specs.Job.{LowDelayResult, result, sizes_in_range, slices_in_range, planes_fit, refusal_of, predicted_plane, accepted, predicted, finished, after_slice, slices_from, unpacked}
 use Rattle.low_delay.specs.declared.parameters.LowDelay.{LowDelay}
 use Rattle.low_delay.proofs.SlicesLaws.{start_none, slice-keeps}
-use Rattle.low_delay.proofs.JobLaws.{zeros-same}
+use Rattle.low_delay.proofs.JobLaws.{zeros_same}
 
 -- The numbers that a check gives.
 pub data CheckStatus : ℕ → Type 0 where
@@ -175,7 +175,7 @@ module _ (p : LowDelay) (bytes : List ℕ) (planes : Planes) where
       let r = slice p bytes k now in
       let kept = slice-keeps p bytes k now in
       slice-ends k r.progress r.plane now (slices_from p bytes n (suc k)) (omega arith) same (slice-lands p bytes k now)
-      (λ there. slices-end n (suc k) r.plane (omega arith) (zeros-same _ _ kept.luma.lengths kept.first.lengths kept.second.lengths ∙ same) there)
+      (λ there. slices-end n (suc k) r.plane (omega arith) (zeros_same _ _ kept.luma.lengths kept.first.lengths kept.second.lengths ∙ same) there)
 
 pub call_ends : Refusals
 unfolding unpacked refusal_of zeros zeros_like
@@ -185,7 +185,7 @@ call_ends p bytes planes = by (eqb (refusal_of p planes) 0) refl
         Ending p bytes planes (cond test (slices_from p bytes (slice_count p.picture) 0 (zeros planes)) (result (refusal_of p planes) 0 planes))
     by true e =
         slices-end p bytes planes (slice_count p.picture) 0 (zeros planes) (omega arith)
-        (zeros-same (zeros planes) planes (length-replicate _ _) (length-replicate _ _) (length-replicate _ _)) (omega (arith, start_none p))
+        (zeros_same (zeros planes) planes (length-replicate _ _) (length-replicate _ _) (length-replicate _ _)) (omega (arith, start_none p))
     by false e =
         at-check
         (check-status (sizes_in_range p.picture) (in_range 0 4 p.picture.depth) (slices_in_range p) (planes_fit p.picture planes) (eqb-false _ _ e))

@@ -17,7 +17,7 @@ use slices::areas::grid_of;
 use slices::parameters::Picture;
 
 // The first of these refusals that applies to planes of these lengths.
-#[tactic(auto, unfolding(crate::specs::Job::refusal_of))]
+#[tactic(auto, using(crate::proofs::JobLaws::checked, crate::proofs::JobLaws::counts_pass), unfolding(crate::specs::Job::refusal_of))]
 pub fn check(p: LowDelay, luma: usize, first: usize, second: usize) -> Result<(), Refusal>
     ensures { (planes : Planes) → PlanesOfLengths luma first second planes → status_of result ≡ refusal_of p planes }
 {

@@ -21,6 +21,7 @@ pub struct Header {
 }
 
 // Reads the header of a slice, whose own bytes start at a bit of all bytes.
+#[tactic(auto, using(crate::proofs::BoundsLaws::indexed), unfolding(crate::specs::Slices::low_delay_parts))]
 pub fn read_header(p: Picture, bytes: &[u8], start: usize) -> Result<Header, Fault>
     requires { Checked p × (1 ≤ length bytes.now) × (length bytes.now ≤ 65535) × (start < 2 ^ 62) }
     ensures result_value { parts_of bytes.now start result ≡ low_delay_parts p (length bytes.now) bytes.now start }

@@ -7,23 +7,20 @@ pub mod headers;
 pub mod parameters;
 pub mod planes;
 pub mod slice;
-pub mod starts;
 
 ghost use Rattle.std.specs.Prelude.{◌≡◌};
 ghost use Rattle.component.specs.Answers.{answer_of};
 ghost use Rattle.slices.specs.Planes.{planes_of};
 ghost use Rattle.slices.specs.Areas.{slice_count};
-ghost use Rattle.slices.specs.Bounds.{Checked, Lengths};
+ghost use Rattle.slices.specs.Bounds.{Lengths};
 ghost use Rattle.slices.specs.Stores.{planes_behind, SamePlanes};
 ghost use Rattle.low_delay.specs.Job.{outcome, slices_from, unpacked};
-ghost use Rattle.low_delay.specs.Bounds.{SoundFraction};
 
 use crate::checks::check;
 use crate::finish::finish;
-use crate::parameters::LowDelay;
+use crate::parameters::{CheckedLowDelay, LowDelay};
 use crate::planes::zero_planes;
-use crate::slice::{Numbered, read_slice};
-use crate::starts::slice_count;
+use crate::slice::read_slice;
 use coefficients::quantiser::factor_table;
 use component::parameters::Refused;
 use lookups::CodeTable;
@@ -50,30 +47,30 @@ pub fn unpack_low_delay(
         second,
     };
     zero_planes(&mut planes);
-    read_slices(p, bytes, &mut planes)
+    read_slices(CheckedLowDelay { parameters: p }, bytes, &mut planes)
 }
 
 // Reads the slices in raster order, and then predicts where the rules say so.
-fn read_slices(p: LowDelay, bytes: &[u8], planes: &mut ThreePlanes<'_>) -> Result<usize, Refused>
-    requires { Checked p.picture × SoundFraction p × Lengths p.picture planes.old.luma.now planes.old.first.now planes.old.second.now }
+fn read_slices(
+    p: CheckedLowDelay,
+    bytes: &[u8],
+    planes: &mut ThreePlanes<'_>,
+) -> Result<usize, Refused>
+    requires { Lengths p.parameters.picture planes.old.luma.now planes.old.first.now planes.old.second.now }
     ensures same { SamePlanes planes.old planes.new }
     ensures ended { outcome (answer_of result) planes.new.luma.now planes.new.first.now planes.new.second.now
-        ≡ slices_from p bytes.now (slice_count p.picture) 0 (planes_behind planes.old) }
+        ≡ slices_from p.parameters bytes.now (slice_count p.parameters.picture) 0 (planes_behind planes.old) }
 {
     let mut run = [0; 8192];
     let codes = CodeTable::new();
-    let picture = p.picture;
+    let intra = p.parameters.picture.intra;
     let mut small = [[0; 32]; 116];
-    fill_small_table(&mut small, picture.intra);
+    fill_small_table(&mut small, intra);
     let factors = factor_table();
-    let tables = Tables::new(picture.intra, &codes, &small, &factors);
-    let count = slice_count(picture);
+    let tables = Tables::new(intra, &codes, &small, &factors);
+    let count = p.slice_count();
     for k in 0..count {
-        let of = Numbered {
-            parameters: p,
-            number: k,
-        };
-        if let Err(fault) = read_slice(planes, of, bytes, &mut run, tables) {
+        if let Err(fault) = read_slice(planes, p, k, bytes, &mut run, tables) {
             zero_planes(planes);
             return Err(Refused {
                 refusal: fault.refusal,

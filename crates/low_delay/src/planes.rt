@@ -27,6 +27,7 @@ pub fn zero_planes(planes: &mut ThreePlanes<'_>)
 }
 
 // Predicts level 0 of each component, up to a value that does not fit.
+#[tactic(auto, unfolding(crate::specs::Bounds::prediction_fits, crate::specs::Bounds::predicted_planes))]
 pub fn predict_planes(p: Picture, planes: &mut ThreePlanes<'_>) -> Result<(), OutOfRange>
     requires { Checked p × Lengths p planes.old.luma.now planes.old.first.now planes.old.second.now }
     ensures same { SamePlanes planes.old planes.new }
@@ -40,6 +41,7 @@ pub fn predict_planes(p: Picture, planes: &mut ThreePlanes<'_>) -> Result<(), Ou
 }
 
 // Predicts level 0 of a component, up to a value that does not fit.
+#[tactic(auto, unfolding(crate::specs::Job::predicted_plane))]
 fn predict_plane(plane: &mut [i32], g: Grid) -> Result<(), OutOfRange>
     requires { Whole g × (length plane.old ≡ g.width * g.height) }
     ensures { ended (is_ok result) plane.new ≡ predicted_plane g plane.old }

@@ -7,24 +7,16 @@ ghost use Rattle.slices.specs.Bounds.{Checked, Lengths};
 ghost use Rattle.slices.specs.Stores.{planes_behind, SamePlanes};
 ghost use Rattle.slices.specs.Reads.{Blank, Left};
 ghost use Rattle.low_delay.specs.Slices.{slice_start, slice};
-ghost use Rattle.low_delay.specs.Bounds.{SoundFraction, SoundParts, announced, part_of};
+ghost use Rattle.low_delay.specs.Bounds.{SoundParts, announced, part_of};
 
 use crate::headers::{Header, read_header};
-use crate::parameters::LowDelay;
-use crate::starts::slice_start;
+use crate::parameters::CheckedLowDelay;
 use base::status::{Fault, Refusal};
 use runs::Span;
 use slices::parameters::{Holder, Picture};
 use slices::parts::{SlicePart, read_part};
 use slices::stores::ThreePlanes;
 use slices::tables::Tables;
-
-// A slice of a picture, by its number.
-#[derive(Clone, Copy)]
-pub struct Numbered {
-    pub parameters: LowDelay,
-    pub number: usize,
-}
 
 // What is read of a slice's own bytes, which start at a bit of all bytes, after its header: luma's part, and that of C1 and C2.
 #[derive(Clone, Copy)]
@@ -35,25 +27,45 @@ pub struct TwoParts {
     pub header: Header,
 }
 
-// Reads a slice, if its bytes are there. Goes on at the bit after it. After a refusal the planes and the run are free.
+impl TwoParts {
+    // The part of luma, or of C1 and C2, from a bit to a bit of the slice's bytes.
+    fn part_of(self, holder: Holder, bit: usize, end: usize) -> SlicePart
+        ensures { result ≡ part_of self holder bit end }
+    {
+        SlicePart {
+            picture: self.picture,
+            slice: self.number,
+            holder,
+            index: self.header.index,
+            span: Span {
+                bit,
+                end,
+                origin: self.start,
+            },
+        }
+    }
+}
+
+// Reads slice k, if its bytes are there. Goes on at the bit after it. After a refusal the planes and the run are free.
+#[tactic(auto, using(crate::proofs::SlicesLaws::count_most))]
 pub fn read_slice(
     planes: &mut ThreePlanes<'_>,
-    of: Numbered,
+    p: CheckedLowDelay,
+    k: usize,
     bytes: &[u8],
     run: &mut [i32],
     tables: Tables<'_>,
 ) -> Result<usize, Fault>
-    requires sound { Checked of.parameters.picture × SoundFraction of.parameters × (of.number < slice_count of.parameters.picture) }
-    requires planes { Lengths of.parameters.picture planes.old.luma.now planes.old.first.now planes.old.second.now × Blank run.old }
-    requires tables { tables.intra ≡ of.parameters.picture.intra }
+    requires counted { k < slice_count p.parameters.picture }
+    requires planes { Lengths p.parameters.picture planes.old.luma.now planes.old.first.now planes.old.second.now × Blank run.old }
+    requires tables { tables.intra ≡ p.parameters.picture.intra }
     ensures same { SamePlanes planes.old planes.new }
-    ensures read { Left (8 * slice_start of.parameters (suc of.number)) result (planes_behind planes.new) run.new
-        (slice of.parameters bytes.now of.number (planes_behind planes.old)) }
+    ensures read { Left (8 * slice_start p.parameters (suc k)) result (planes_behind planes.new) run.new
+        (slice p.parameters bytes.now k (planes_behind planes.old)) }
 {
-    let p = of.parameters;
-    let picture = p.picture;
-    let start = slice_start(p, of.number);
-    let next = slice_start(p, of.number + 1);
+    let picture = p.parameters.picture;
+    let start = p.slice_start(k);
+    let next = p.slice_start(k + 1);
     if bytes.len() < next {
         return Err(Fault {
             refusal: Refusal::BytesEndEarly,
@@ -64,7 +76,7 @@ pub fn read_slice(
     let header = read_header(picture, own, 8 * start)?;
     let parts = TwoParts {
         picture,
-        number: of.number,
+        number: k,
         start: 8 * start,
         header,
     };
@@ -90,26 +102,9 @@ fn read_parts(
 {
     let end = 8 * bytes.len();
     let middle = parts.header.middle;
-    let luma = part_of(parts, Holder::Luma, parts.header.from, middle);
+    let luma = parts.part_of(Holder::Luma, parts.header.from, middle);
     read_part(planes, luma, bytes, run, tables)?;
-    let both = part_of(parts, Holder::Both, middle, end);
+    let both = parts.part_of(Holder::Both, middle, end);
     read_part(planes, both, bytes, run, tables)?;
     Ok(parts.start + end)
-}
-
-// A part of a slice, from a bit to a bit of its bytes.
-fn part_of(parts: TwoParts, holder: Holder, bit: usize, end: usize) -> SlicePart
-    ensures { result ≡ part_of parts holder bit end }
-{
-    SlicePart {
-        picture: parts.picture,
-        slice: parts.number,
-        holder,
-        index: parts.header.index,
-        span: Span {
-            bit,
-            end,
-            origin: parts.start,
-        },
-    }
 }

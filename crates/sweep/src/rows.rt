@@ -37,7 +37,8 @@ pub fn filter_pair(
     filter_row_of(work, samples, halves, level, filter, 2 * k + 1)
 }
 
-// The same for one row of the level's frame.
+// The same for one row of the level's frame. Not inlined, it would be handed a copy of the filter for each row.
+#[inline(always)]
 fn filter_row_of(
     work: &mut [i32],
     samples: &mut [i32],

@@ -4,26 +4,16 @@ use native.Mathlib.Numerals.{add-one}
 use native.Mathlib.Omega.{arith}
 use Rattle.base.specs.Refusals.{number_of}
 use Rattle.slices.specs.Stores.{planes_behind}
-use Rattle.slices.proofs.PartsLaws.{lengths-same}
 use Rattle.slices.proofs.ReadsLaws.{blank-zeros, left-on}
 use Rattle.slices.proofs.StoresLaws.{same_planes-then}
 use Rattle.low_delay.specs.Job.{result, outcome}
-use Rattle.low_delay.proofs.JobLaws.{zeros-same, slices-read, slices-refused, slices-over}
+use Rattle.low_delay.proofs.JobLaws.{zeros_same, slices-read, slices-refused, slices-over}
 use Rattle.low_delay.proofs.read_slices.Goals as goal
 
 pub loop-k-init : goal.loop-k-init
 loop-k-init c =
     let whole : c.slice_count-count.result ≡ c.slice_count-count.result - 0 = omega arith in
     (omega arith, ((refl, refl, refl), (refl, refl, refl)), refl, blank-zeros, rw (← whole) refl)
-
-pub read_slice-requires : goal.read_slice-requires
-read_slice-requires c =
-    let inv = c.loop-k.invariant in
-    record {
-      sound = (c.requires.0, c.requires.1, omega (arith, c.loop-k-test, c.slice_count-count.ensures.0));
-      planes = (lengths-same _ _ _ inv.1.1 c.requires.2, inv.3);
-      tables = c.new-tables.ensures;
-    }
 
 pub loop-k-preserved : goal.loop-k-preserved
 loop-k-preserved c =
@@ -43,13 +33,9 @@ returns-in-Err-clause-ended c =
     let left : c.slice_count-count.result - c.loop-k.k ≡ suc (c.slice_count-count.result - suc c.loop-k.k) = omega (arith, c.loop-k-test) in
     let long = c.read_slice.ensures.same.1 in
     ap (result (number_of c.in-Err.fault.refusal) c.loop-k.k)
-    (c.zero_planes.ensures.zeroed ∙ zeros-same _ (planes_behind c.loop-k.planes) long.0 long.1 long.2)
+    (c.zero_planes.ensures.zeroed ∙ zeros_same _ (planes_behind c.loop-k.planes) long.0 long.1 long.2)
     ∙ sym (slices-refused _ _ c.loop-k.k _ _ _ _ _ left (sym c.in-Err.ensures.read.progress_is))
     ∙ sym c.loop-k.invariant.4 ∙ rw count refl
-
-pub finish-requires : goal.finish-requires
-finish-requires c =
-    (c.requires.0, c.requires.1, lengths-same _ _ _ c.loop-k.invariant.1.1 c.requires.2)
 
 pub returns-clause-ended : goal.returns-clause-ended
 returns-clause-ended c =

@@ -10,4 +10,4 @@ use Rattle.low_delay.proofs.read_slices.Given as goal
 abbrev pub invariant-loop-k : goal.invariant-loop-k
 invariant-loop-k l =
     (l.k ≤ l.count) × SamePlanes l.initial.planes l.planes × (length l.run ≡ 8192) × Blank l.run
-    × (slices_from l.p l.bytes l.count 0 (planes_behind l.initial.planes) ≡ slices_from l.p l.bytes (l.count - l.k) l.k (planes_behind l.planes))
+    × (slices_from l.p.parameters l.bytes l.count 0 (planes_behind l.initial.planes) ≡ slices_from l.p.parameters l.bytes (l.count - l.k) l.k (planes_behind l.planes))

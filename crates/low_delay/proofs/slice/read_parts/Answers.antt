@@ -1,36 +1,14 @@
 -- `low_delay::slice::read_parts` meets its contract: the second part is read where the first was, and the slice then goes on at its end.
-use mathlib.Core.Path.{refl}
-use native.Mathlib.Omega.{arith}
 use Rattle.std.proofs.lemmas.Result.{err_from_is_err_and}
-use Rattle.slices.proofs.PartsLaws.{lengths-same, first-stopped, second-stopped, both_read}
+use Rattle.slices.proofs.PartsLaws.{first-stopped, second-stopped, both_read}
 use Rattle.slices.proofs.ReadsLaws.{left-on}
 use Rattle.low_delay.proofs.slice.read_parts.Goals as goal
-
-pub read_part-requires : goal.read_part-requires
-read_part-requires c =
-    let parts = c.requires.sound.3 in
-    rw c.part_of-luma.ensures
-    (record {
-      sound = (c.requires.sound.0, c.requires.sound.1, parts.indexed, record { before_end = parts.forward; small = omega (arith, parts.inside, c.requires.sound.2) });
-      planes = c.requires.planes;
-      tables = c.requires.tables;
-    })
 
 pub returns-in_err-read_part-clause-read : goal.returns-in_err-read_part-clause-read
 returns-in_err-read_part-clause-read c =
     let refused = err_from_is_err_and c.from_residual.result c.from_residual.ensures.1 in
     rw (refused.1, refused.2)
     (λ at. first-stopped _ _ _ _ _ _ _ _ _ _ _ _ _ _ _ (rw c.part_of-luma.ensures at c.in_err-read_part.ensures.read))
-
-pub read_part-requires-2 : goal.read_part-requires-2
-read_part-requires-2 c =
-    let parts = c.requires.sound.3 in
-    rw c.part_of-both.ensures
-    (record {
-      sound = (c.requires.sound.0, c.requires.sound.1, parts.indexed, record { before_end = parts.inside; small = c.requires.sound.2 });
-      planes = (lengths-same _ _ _ c.read_part.ensures.same.1 c.requires.planes.0, c.in_ok-read_part.ensures.read.run_blank _ refl);
-      tables = c.requires.tables;
-    })
 
 pub returns-in_err-read_part-2-clause-read : goal.returns-in_err-read_part-2-clause-read
 returns-in_err-read_part-2-clause-read c =

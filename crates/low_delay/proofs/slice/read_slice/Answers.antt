@@ -1,6 +1,6 @@
 -- `low_delay::slice::read_slice` meets its contract: a slice short of bytes is refused, and so is one that its header refuses.
 use mathlib.Core.Path.{◌≡◌, ◌∙◌}
-use Prim.Native.Nat.{suc, ◌-◌, ◌≤◌, ◌<◌}
+use Prim.Native.Nat.{suc, ◌-◌, ◌≤◌}
 use native.Mathlib.Numerals.{add-one}
 use native.Mathlib.Omega.{arith}
 use lib.ListN.{length, take, drop}
@@ -8,45 +8,32 @@ use Rattle.std.proofs.lemmas.Result.{err_from_is_err_and}
 use Rattle.slices.specs.Stores.{planes_behind}
 use Rattle.slices.proofs.ReadsLaws.{left-refused}
 use Rattle.low_delay.specs.Slices.{slice_start, slice_size}
-use Rattle.low_delay.proofs.SlicesLaws.{count_most, size_is, size-most, size-least, start-grows, own-length, slice-short, slice-refused, slice-read}
+use Rattle.low_delay.proofs.SlicesLaws.{size_is, size-most, size-least, start-grows, own-length, slice-short, slice-refused, slice-read}
 use Rattle.low_delay.proofs.slice.read_slice.Goals as goal
-use Rattle.low_delay.proofs.slice.read_slice.Goals.{After-slice_start-next, Else-bytes-next, Start}
-
--- there are no more than 65025 slices
-slices-few : (c : Start) → c.args.of.number < 65025
-slices-few c = omega (arith, c.requires.sound.2, count_most _ c.requires.sound.0)
+use Rattle.low_delay.proofs.slice.read_slice.Goals.{After-slice_start-next, Else-bytes-next}
 
 -- where it starts and ends, and that its bytes are there
-starts : (c : After-slice_start-next) → c.slice_start-start.result ≡ slice_start c.args.of.parameters c.args.of.number
+starts : (c : After-slice_start-next) → c.slice_start-start.result ≡ slice_start c.args.p.parameters c.args.k
 starts c = c.slice_start-start.ensures.0
 
-ends : (c : After-slice_start-next) → c.slice_start-next.result ≡ slice_start c.args.of.parameters (suc c.args.of.number)
-ends c = rw (add-one c.args.of.number) at c.slice_start-next.ensures.0
+ends : (c : After-slice_start-next) → c.slice_start-next.result ≡ slice_start c.args.p.parameters (suc c.args.k)
+ends c = rw (add-one c.args.k) at c.slice_start-next.ensures.0
 
 forward : (c : Else-bytes-next) → c.slice_start-start.result ≤ c.slice_start-next.result
 forward c =
     let starts = c.slice_start-start.ensures.0 in
-    let ends = rw (add-one c.args.of.number) at c.slice_start-next.ensures.0 in
-    rw (starts, ends) (start-grows c.args.of.parameters c.requires.sound.1.denominator_least c.args.of.number (suc c.args.of.number) (omega arith))
+    let ends = rw (add-one c.args.k) at c.slice_start-next.ensures.0 in
+    rw (starts, ends) (start-grows c.args.p.parameters c.args.p.fraction_sound.denominator_least c.args.k (suc c.args.k) (omega arith))
 
 -- its own bytes are as many as the definition says
 own_is : (c : Else-bytes-next) →
     length (take (c.slice_start-next.result - c.slice_start-start.result) (drop c.slice_start-start.result c.args.bytes.now))
-    ≡ slice_size c.args.of.parameters c.args.of.number
+    ≡ slice_size c.args.p.parameters c.args.k
 own_is c =
     let starts = c.slice_start-start.ensures.0 in
-    let ends = rw (add-one c.args.of.number) at c.slice_start-next.ensures.0 in
+    let ends = rw (add-one c.args.k) at c.slice_start-next.ensures.0 in
     own-length _ c.args.bytes.now _ _ _ starts ends (planes_behind c.args.planes.now) (omega (arith, c.if-bytes-next.false))
     ∙ size_is _ _ _ _ starts ends
-
-pub slice_start-start-requires : goal.slice_start-start-requires
-slice_start-start-requires c = (c.requires.sound.1, omega (arith, slices-few (goal.at.slice_start-start-requires c).Start))
-
-pub overflow_add-of : goal.overflow_add-of
-overflow_add-of c = omega (arith, slices-few (goal.at.overflow_add-of c).Start)
-
-pub slice_start-next-requires : goal.slice_start-next-requires
-slice_start-next-requires c = (c.requires.sound.1, omega (arith, slices-few (goal.at.slice_start-next-requires c).Start))
 
 pub returns-then-bytes-next-clause-read : goal.returns-then-bytes-next-clause-read
 returns-then-bytes-next-clause-read c = left-refused _ _ _ _ _ _ (slice-short _ _ _ _ _ (starts (goal.at.returns-then-bytes-next-clause-read c).After-slice_start-next) (ends (goal.at.returns-then-bytes-next-clause-read c).After-slice_start-next) _ c.if-bytes-next.true)
@@ -60,18 +47,10 @@ slice_bounds-own-start c = forward (goal.at.slice_bounds-own-start c).Else-bytes
 pub read_header-requires : goal.read_header-requires
 read_header-requires c =
     let own = own_is (goal.at.read_header-requires c).Else-bytes-next in
-    let sound = c.requires.sound.1 in
-    let p = c.args.of.parameters in
-    let k = c.args.of.number in
-    (c.requires.sound.0, omega (arith, own, size-least p sound.denominator_least sound.denominator_most k), omega (arith, own, size-most p sound.denominator_least k, sound.numerator_most), omega (arith, c.slice_start-start.ensures.1))
-
-pub read_parts-requires : goal.read_parts-requires
-read_parts-requires c =
-    record {
-      sound = (c.requires.sound.0, c.requires.sound.2, omega (arith, c.slice_start-start.ensures.1, own_is (goal.at.read_parts-requires c).Else-bytes-next, size-most c.args.of.parameters c.requires.sound.1.denominator_least c.args.of.number, c.requires.sound.1.numerator_most), c.in_ok-header.ensures.sound_header);
-      planes = c.requires.planes;
-      tables = c.requires.tables;
-    }
+    let sound = c.args.p.fraction_sound in
+    let p = c.args.p.parameters in
+    let k = c.args.k in
+    (c.args.p.picture_checked, omega (arith, own, size-least p sound.denominator_least sound.denominator_most k), omega (arith, own, size-most p sound.denominator_least k, sound.numerator_most), omega (arith, c.slice_start-start.ensures.1))
 
 pub returns-in_err-header-clause-read : goal.returns-in_err-header-clause-read
 returns-in_err-header-clause-read c =
