@@ -1,6 +1,6 @@
 -- The code's own forms: how the stages of a level follow each other in one sweep over the pairs of rows of a picture. No definition of the format
 -- rests on them.
-use Rattle.std.specs.Prelude.{◌≡◌, Bool, false, cond, List, [], ℕ, zero, suc, ◌+◌, ◌-◌, ◌*◌, ◌≤◌, ◌<◌, min, leb, eqb, ℤ, get_or}
+use Rattle.std.specs.Prelude.{◌≡◌, Bool, cond, List, ℕ, zero, suc, ◌+◌, ◌-◌, ◌*◌, ◌≤◌, ◌<◌, min, leb, eqb, ℤ, get_or}
 use Rattle.lifting.specs.Layout.{frame_picture}
 use Rattle.filters.specs.Passes.{Picture, columns, run}
 use Rattle.filters.specs.Steps.{step_of, one_tap}
