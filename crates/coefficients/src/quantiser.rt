@@ -19,7 +19,7 @@ pub fn quantiser_of(intra: bool, index: u32) -> Quantiser
     Quantiser { factor, offset }
 }
 
-// The same, where the factors of all indices are at hand.
+// The same, where the factors of all indices are at hand: a caller with many indices has them made once, which is measured.
 pub fn quantiser_by(factors: &[u32; 116], intra: bool, index: u32) -> Quantiser
     requires { (index ≤ 115) × KnowsFactors factors.now }
     ensures { scale_of result ≡ dequantise intra index }

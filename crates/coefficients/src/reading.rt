@@ -4,7 +4,8 @@ ghost use Rattle.std.specs.Prelude.{◌<◌, ◌^◌};
 use base::status::Fault;
 
 // A position in data: the next bit, and the bit at which the data end. Past data of a stated length bits read as 1; other data are what is at
-// hand of longer ones. The data's first bit is bit `origin` of all the bytes.
+// hand of longer ones. The data's first bit is bit `origin` of all the bytes. That it stands within its data (`Sound`) is said by contracts, since the
+// definitions of what is read make cursors of plain numbers.
 #[derive(Clone, Copy)]
 pub struct Cursor {
     pub bit: usize,

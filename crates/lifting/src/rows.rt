@@ -60,7 +60,7 @@ pub fn kept_columns(row: usize, width: usize, height: usize) -> usize
     if row < height { width } else { 0 }
 }
 
-// The same in place, for the row that starts at an index of the plane.
+// The same in place, for the row that starts at an index of the plane. What the two share is one call, and what follows differs in each line.
 pub fn filter_row(
     work: &mut [i32],
     start: usize,

@@ -18,7 +18,7 @@ use coefficients::values::{Decoder, Placing, read_few, read_value};
 use padded::padded_window;
 
 // Where a part of data stands: its next bit, the bit at which it ends, and the bit of all the bytes that its first bit is. Past its end bits
-// read as 1.
+// read as 1. That it stands before its end (`SoundSpan`) is said by contracts, since slices make spans of plain numbers.
 #[derive(Clone, Copy)]
 pub struct Span {
     pub bit: usize,

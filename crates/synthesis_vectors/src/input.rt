@@ -25,7 +25,7 @@ pub(crate) fn parameters_of(header: &[u8; HEADER_SIZE]) -> Parameters {
     }
 }
 
-// Reads a whole plane from the input. False where the input ends before the plane does.
+// Reads a whole plane from the input. False where the input ends before the plane does: that is all that a caller asks.
 pub(crate) fn read_plane(input: &mut impl Read, plane: &mut [i32]) -> io::Result<bool> {
     for entry in plane.iter_mut() {
         match read_coefficient(input)? {
