@@ -3,5 +3,4 @@
 
 pub mod bounds;
 pub mod filter;
-pub mod step;
 pub mod table;
