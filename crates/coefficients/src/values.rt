@@ -75,7 +75,8 @@ pub struct Batch {
 
 // Reads the values of a layout from one on. Of data of a stated length it reads all, or up to one that is refused. Of other data it stops
 // where bits are wanting, with fewer than 64 left; where exactly is free, and so is the count from a refused value on: what was read is what
-// all data that begin so have.
+// all data that begin so have. It is inlined first of all, with what reads some or one: else loops are doubled before that, and registers spilled.
+#[inline(always)]
 pub fn read_run(
     plane: &mut [i32],
     layout: Layout,
@@ -117,6 +118,7 @@ pub fn read_run(
 }
 
 // Reads a value or more: many at once where the next bits are there and small values fit; one value where none ends in them.
+#[inline(always)]
 fn read_some(
     plane: &mut [i32],
     layout: Layout,
@@ -304,6 +306,7 @@ fn read_lookups<P: Placing>(
 }
 
 // Reads value i, if it is all there.
+#[inline(always)]
 pub fn read_value<P: Placing>(
     plane: &mut [i32],
     placing: P,
