@@ -77,6 +77,7 @@ pub fn read_codeblocks(
     let mut block = blocks.block_before(from.begun);
     let reciprocal = reciprocal_of(blocks.across);
     let mut next = cursor;
+    // Until the last codeblock is read, a value is refused or bits are wanting: the codeblock begun last comes first, from inside it.
     loop {
         let part = read_values(plane, block.area, position.values, bytes, next, decoder);
         position.values = part.count;

@@ -91,6 +91,7 @@ pub fn read_run(
 {
     let mut next = cursor;
     let mut i = from;
+    // By as many as were read.
     while i < layout.count {
         let part = read_some(plane, layout, i, bytes, next, decoder);
         i += part.count;

@@ -15,7 +15,7 @@ use base::plane::zero_part;
 use base::status::OutOfRange;
 use filters::bounds::{Bounds, bounds_after};
 use filters::filter::{LiftingFilter, LiftingStep};
-use lines::buffers::{extend, interleave};
+use lines::buffers::{LineBuffer, extend, interleave};
 use lines::measures::copy_measured;
 use std::array;
 
@@ -32,7 +32,7 @@ pub struct KeptRow {
 pub fn finish_row(
     work: &mut [i32],
     samples: &mut [i32],
-    halves: &mut [i32; 4112],
+    halves: &mut LineBuffer,
     half: usize,
     kept: KeptRow,
     filter: LiftingFilter,
@@ -62,7 +62,7 @@ pub fn kept_columns(row: usize, width: usize, height: usize) -> usize
 pub fn filter_row(
     work: &mut [i32],
     start: usize,
-    halves: &mut [i32; 4112],
+    halves: &mut LineBuffer,
     half: usize,
     filter: LiftingFilter,
 ) -> Result<(), OutOfRange>
@@ -79,7 +79,7 @@ pub fn filter_row(
 fn filter_row_halves(
     work: &[i32],
     start: usize,
-    halves: &mut [i32; 4112],
+    halves: &mut LineBuffer,
     half: usize,
     filter: LiftingFilter,
 ) -> Result<(), OutOfRange>
@@ -99,7 +99,7 @@ fn filter_row_halves(
 
 // Runs the steps of a filter on a row whose even and odd elements stand as the two halves in the line buffer, each within its bound.
 fn filter_halves(
-    halves: &mut [i32; 4112],
+    halves: &mut LineBuffer,
     half: usize,
     filter: LiftingFilter,
     first: Bounds,
@@ -120,7 +120,7 @@ fn filter_halves(
 
 // Runs one step on such a row: lifts one half by the other, whose ends are repeated first, in 32 bits where the sizes of their numbers allow it.
 fn lift_halves(
-    halves: &mut [i32; 4112],
+    halves: &mut LineBuffer,
     half: usize,
     step: LiftingStep,
     bounds: Bounds,

@@ -70,6 +70,7 @@ pub fn lift_exactly(
     ensures { LineLifted step starts.now start width plane.old (is_ok result) plane.new }
 {
     let mut done = 0;
+    // Part by part, of which the last may be shorter.
     while done < width {
         let part = (width - done).min(256);
         let part_starts = moved_by(starts, step.count, done);

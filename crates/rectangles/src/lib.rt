@@ -27,6 +27,7 @@ pub fn read_values(
     let total = area.height * area.width;
     let mut next = cursor;
     let mut i = from;
+    // By as many as were read.
     while i < total {
         let layout = layout_of(area, i);
         let part = read_run(plane, layout, i, bytes, next, decoder);

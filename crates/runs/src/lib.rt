@@ -62,6 +62,7 @@ pub fn read_run(
     let placing = SideBySide { count: n };
     let mut bit = span.bit;
     let mut i = 0;
+    // By as many as were read.
     while i < n {
         // The values that are left are zeros.
         if end <= bit {

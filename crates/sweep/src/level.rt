@@ -17,6 +17,7 @@ use crate::turns::{TURN_PAIRS, came_to, lift_turn};
 use base::status::OutOfRange;
 use filters::filter::LiftingFilter;
 use lifting::frame::Frame;
+use lines::buffers::LineBuffer;
 use lines::measures::join;
 
 // A level that is swept: where its picture stands in the work plane, how far its stages are apart, and, where its rows are finished into the samples,
@@ -36,7 +37,7 @@ pub fn sweep_level(
     samples: &mut [i32],
     coefficients: &[i32],
     padded_width: usize,
-    halves: &mut [i32; 4112],
+    halves: &mut LineBuffer,
     level: Level,
     filter: LiftingFilter,
 ) -> Result<(), OutOfRange>
@@ -53,6 +54,7 @@ pub fn sweep_level(
     let last = level.frame.band_rows + lag;
     let mut most = 0u32;
     let mut turn = 0;
+    // Turn by turn, of so many pairs each.
     while turn < last {
         let frame = level.frame;
         let pairs = frame.band_rows;
@@ -74,7 +76,7 @@ pub fn sweep_level(
 fn filter_pairs(
     work: &mut [i32],
     samples: &mut [i32],
-    halves: &mut [i32; 4112],
+    halves: &mut LineBuffer,
     level: Level,
     filter: LiftingFilter,
     from: usize,

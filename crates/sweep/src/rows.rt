@@ -10,6 +10,7 @@ use crate::level::Level;
 use base::status::OutOfRange;
 use filters::filter::LiftingFilter;
 use lifting::rows::{KeptRow, filter_row, finish_row, kept_columns};
+use lines::buffers::LineBuffer;
 
 // The width and the height of the samples.
 #[derive(Clone, Copy)]
@@ -23,7 +24,7 @@ pub struct Crop {
 pub fn filter_pair(
     work: &mut [i32],
     samples: &mut [i32],
-    halves: &mut [i32; 4112],
+    halves: &mut LineBuffer,
     level: Level,
     filter: LiftingFilter,
     k: usize,
@@ -42,7 +43,7 @@ pub fn filter_pair(
 fn filter_row_of(
     work: &mut [i32],
     samples: &mut [i32],
-    halves: &mut [i32; 4112],
+    halves: &mut LineBuffer,
     level: Level,
     filter: LiftingFilter,
     row: usize,

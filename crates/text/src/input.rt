@@ -9,6 +9,7 @@ pub fn read_full(input: &mut impl Read, bytes: &mut [u8]) -> io::Result<usize>
     ensures { ReadsAtMost result bytes.new }
 {
     let mut count = 0;
+    // By as many as a read gives.
     while count < bytes.len() {
         let more = input.read(&mut bytes[count..])?;
         if more == 0 {

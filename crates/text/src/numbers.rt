@@ -1,4 +1,4 @@
-// Numbers as text: in decimal, with a sign, and in rows.
+// Numbers as text: in decimal, with a sign, and in rows. A contract says which bytes are put; of what `Display` and `write!` put none can.
 ghost use Rattle.std.specs.Prelude.{◌++◌, ◌≡◌, ◌+◌, ◌*◌, ◌≤◌, length};
 ghost use Rattle.text.specs.Text.{ascii, decimal, signed_text, spaced, row_text, rows_text};
 

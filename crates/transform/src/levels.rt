@@ -9,6 +9,7 @@ use base::plane::zero;
 use base::status::OutOfRange;
 use filters::filter::LiftingFilter;
 use lifting::frame::Frame;
+use lines::buffers::LineBuffer;
 use sweep::gaps::gap_of;
 use sweep::level::{Level, sweep_level};
 use sweep::rows::Crop;
@@ -31,7 +32,7 @@ pub fn synthesise_levels(
     work: &mut [i32],
     samples: &mut [i32],
     coefficients: &[i32],
-    halves: &mut [i32; 4112],
+    halves: &mut LineBuffer,
     extent: Extent,
     filter: LiftingFilter,
     n: usize,
@@ -82,7 +83,7 @@ fn synthesise_level(
     work: &mut [i32],
     samples: &mut [i32],
     coefficients: &[i32],
-    halves: &mut [i32; 4112],
+    halves: &mut LineBuffer,
     extent: Extent,
     filter: LiftingFilter,
     below: usize,
