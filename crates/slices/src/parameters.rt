@@ -2,7 +2,8 @@
 ghost use Rattle.std.specs.Prelude.{◌≡◌, ◌*◌, ◌≤◌};
 ghost use Rattle.slices.specs.Stores.{turns};
 
-// What every kind of slices takes. Any value can be passed; a job refuses what is out of range.
+// What every kind of slices takes. Any value can be passed; a job refuses what is out of range. C passes such a value, and definitions are about
+// it, so what a job has found (`Checked`) stands in contracts and not in the type.
 #[derive(Clone, Copy)]
 pub struct Picture {
     pub luma_width: u32,
@@ -17,7 +18,8 @@ pub struct Picture {
     pub matrix: [u32; 13],
 }
 
-// The plane of a component, by its padded sizes, and the counts of the slices that divide it.
+// The plane of a component, by its padded sizes, and the counts of the slices that divide it. The definition `grid_of` makes one of any numbers, so
+// that they are in range (`Whole`) stands in contracts and not in the type.
 #[derive(Clone, Copy)]
 pub struct Grid {
     pub depth: usize,

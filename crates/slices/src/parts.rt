@@ -43,7 +43,8 @@ pub struct Piece<'a> {
 }
 
 // Reads the values of a part: all, or up to one that is refused. They go through a run of zeros, which holds zeros again after the last. After a
-// refusal the planes and the run are free; a job zeroes its planes then. So it is of the functions below.
+// refusal the planes and the run are free, so that the run holds zeros is no fact of a type; a job zeroes its planes then. So it is of the
+// functions below.
 pub fn read_part(
     planes: &mut ThreePlanes<'_>,
     part: SlicePart,
@@ -71,8 +72,7 @@ pub fn read_part(
             span,
             decoder: tables.decoder(subband_index(p, part.index, k)),
         };
-        let bit = read_area(planes, piece, bytes, run)?;
-        span.bit = bit;
+        span.bit = read_area(planes, piece, bytes, run)?;
     }
     Ok(span.bit)
 }
@@ -108,8 +108,7 @@ fn read_area(
     let mut row = piece;
     for y in 0..area.height {
         row.area = row_of(area, y);
-        let bit = read_rows(planes, row, bytes, run)?;
-        row.span.bit = bit;
+        row.span.bit = read_rows(planes, row, bytes, run)?;
     }
     Ok(row.span.bit)
 }
@@ -121,9 +120,8 @@ fn row_of(area: Rectangle, y: usize) -> Rectangle
 {
     Rectangle {
         start: area.start + y * area.stride,
-        stride: area.stride,
-        width: area.width,
         height: 1,
+        ..area
     }
 }
 

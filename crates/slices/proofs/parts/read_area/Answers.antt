@@ -28,10 +28,10 @@ row-left c result is =
     let inv = c.loop-y.invariant in
     left-again _ _ _ inv.6 inv.7 _ _ _ _ _ _ _ (rw (is, c.row_of-row.ensures, inv.4, inv.5) at c.read_rows-in-loop-y.ensures.read)
 
-pub returns-in_err-bit-clause-read : goal.returns-in_err-bit-clause-read
-returns-in_err-bit-clause-read c =
+pub returns-in_err-row-clause-read : goal.returns-in_err-row-clause-read
+returns-in_err-row-clause-read c =
     let refused = err_from_is_err_and c.from_residual.result c.from_residual.ensures.1 in
-    let left = row-left (goal.at.returns-in_err-bit-clause-read c).After-read_rows-in-loop-y (Err refused.0) (rw refused.2 c.in_err-bit.was) in
+    let left = row-left (goal.at.returns-in_err-row-clause-read c).After-read_rows-in-loop-y (Err refused.0) (rw refused.2 c.in_err-row.was) in
     rw (refused.1, ← area-rows (data_of c.args.bytes.now c.args.piece.span) (scale_of c.args.piece.decoder.q) c.args.piece.holder c.args.piece.area _)
     (walked_stop _ (λ k. area-stays _ _ _ _) _ _ c.loop-y.y _ _ _ _ _ _ c.loop-y-test.true c.loop-y.invariant.9 left)
 
@@ -39,7 +39,7 @@ pub loop-y-preserved : goal.loop-y-preserved
 loop-y-preserved c =
     let inv = c.loop-y.invariant in
     let row = c.read_rows-in-loop-y in
-    let left = row-left (goal.at.loop-y-preserved c).After-read_rows-in-loop-y _ c.in_ok-bit.was in (
+    let left = row-left (goal.at.loop-y-preserved c).After-read_rows-in-loop-y _ c.in_ok-row.was in (
       omega (arith, c.loop-y-test.true),
       same_planes-then c.args.planes.now c.loop-y.planes row.new.planes inv.1 row.ensures.same,
       row.auto.run ∙ inv.2,

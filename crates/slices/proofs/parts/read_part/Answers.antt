@@ -61,19 +61,19 @@ band-left c result is =
     let area = rw (slice.0, slice.1, c.grid_for.ensures.0) at c.area_at.ensures in
     left-again _ _ _ inv.4 inv.5 _ _ _ _ _ _ _ (rw (is, area, c.decoder.ensures, c.requires.tables, c.subband_index.ensures) at c.read_area.ensures.read)
 
-pub returns-in_err-bit-clause-read : goal.returns-in_err-bit-clause-read
+pub returns-in_err-span-clause-read : goal.returns-in_err-span-clause-read
 unfolding part_values
-returns-in_err-bit-clause-read c =
+returns-in_err-span-clause-read c =
     let refused = err_from_is_err_and c.from_residual.result c.from_residual.ensures.1 in
-    let left = band-left (goal.at.returns-in_err-bit-clause-read c).After-read_area (Err refused.0) (rw refused.2 c.in_err-bit.was) in
+    let left = band-left (goal.at.returns-in_err-span-clause-read c).After-read_area (Err refused.0) (rw refused.2 c.in_err-span.was) in
     rw refused.1
-    (walked_stop _ (λ k. area-stays _ _ _ _) _ _ c.loop-k.k _ _ _ _ _ _ (in-turn (goal.at.returns-in_err-bit-clause-read c).In-loop-k) c.loop-k.invariant.7 left)
+    (walked_stop _ (λ k. area-stays _ _ _ _) _ _ c.loop-k.k _ _ _ _ _ _ (in-turn (goal.at.returns-in_err-span-clause-read c).In-loop-k) c.loop-k.invariant.7 left)
 
 pub loop-k-preserved : goal.loop-k-preserved
 loop-k-preserved c =
     let inv = c.loop-k.invariant in
     let band = c.read_area in
-    let left = band-left (goal.at.loop-k-preserved c).After-read_area _ c.in_ok-bit.was in (
+    let left = band-left (goal.at.loop-k-preserved c).After-read_area _ c.in_ok-span.was in (
       omega (arith, c.loop-k-test),
       same_planes-then c.args.planes.now c.loop-k.planes band.new.planes inv.1 band.ensures.same,
       band.auto.run ∙ inv.2,
