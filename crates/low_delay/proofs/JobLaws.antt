@@ -11,9 +11,6 @@ use lib.Dec.{leb, eqb}
 use lib.IntN.{ℤ}
 use lib.ListN.{length}
 use borrow.Author.Tests.{leb-true, eqb-true, ne_eqb}
-use Rattle.base.specs.Refusals.{number_of}
-use Rattle.base.specs.declared.status.Refusal.{Refusal}
-use Rattle.base.specs.declared.status.Refusal.TheVariants.{Size, Depth, Wavelet, Codeblocks, Planes as PlanesRefused, BytesEndEarly, CodeTooLong, Quantiser, ValueOutOfRange, SynthesisOutOfRange, BytesLeftOver, Slices, LumaLength}
 use Rattle.base.proofs.Booleans.{and_left, and_right}
 use Rattle.base.proofs.ListsLaws.{zeros-length}
 use Rattle.component.specs.Checks.{in_range}
@@ -175,22 +172,6 @@ module _ (p : LowDelay) (bytes : List ℕ) (k : ℕ) (planes : Planes) where
   pub slices-over : (left : ℕ) → left ≡ 0 → slices_from p bytes left k planes ≡ finished p planes
   unfolding slices_from
   slices-over left none = rw none refl
-
--- no refusal has the number 0
-pub refusal-some : (r : Refusal) → number_of r ≢ 0
-refusal-some Size e = omega (arith, e)
-refusal-some Depth e = omega (arith, e)
-refusal-some Wavelet e = omega (arith, e)
-refusal-some Codeblocks e = omega (arith, e)
-refusal-some PlanesRefused e = omega (arith, e)
-refusal-some BytesEndEarly e = omega (arith, e)
-refusal-some CodeTooLong e = omega (arith, e)
-refusal-some Quantiser e = omega (arith, e)
-refusal-some ValueOutOfRange e = omega (arith, e)
-refusal-some SynthesisOutOfRange e = omega (arith, e)
-refusal-some BytesLeftOver e = omega (arith, e)
-refusal-some Slices e = omega (arith, e)
-refusal-some LumaLength e = omega (arith, e)
 
 -- the job: a check refuses it, or its slices are read over zeros
 module _ (p : LowDelay) (bytes : List ℕ) (planes : Planes) where

@@ -8,9 +8,7 @@ use Rattle.slices.specs.Areas.{luma_grid, chroma_grid}
 use Rattle.slices.specs.Bounds.{Indexed}
 use Rattle.slices.specs.Parts.{Parts, part, ends, refused}
 use Rattle.slices.specs.declared.parameters.Picture.{Picture}
-use Rattle.slices.specs.declared.parameters.Holder.{Holder}
 use Rattle.slices.specs.declared.parameters.Holder.TheVariants.{Luma, Both}
-use Rattle.slices.specs.declared.parts.SlicePart.{SlicePart}
 use Rattle.low_delay.specs.Job.{predicted_plane}
 use Rattle.low_delay.specs.declared.parameters.LowDelay.{LowDelay}
 use Rattle.low_delay.specs.declared.slice.TwoParts.{TwoParts}
@@ -35,17 +33,6 @@ parts_of bytes start (Ok header) =
     part header.index (record { bytes = bytes; origin = start; from = header.from; to = header.middle }) Luma
     (part header.index (record { bytes = bytes; origin = start; from = header.middle; to = 8 * length bytes }) Both
     (ends (start + 8 * length bytes)))
-
--- A part of a slice, from a bit to a bit of its bytes.
-abbrev pub part_of : TwoParts → Holder → ℕ → ℕ → SlicePart
-part_of parts holder bit end =
-    record {
-      picture = parts.picture;
-      slice = parts.number;
-      holder = holder;
-      index = parts.header.index;
-      span = record { bit = bit; end = end; origin = parts.start };
-    }
 
 -- The parts lie in a slice of so many bytes, and the index of every subband is in range.
 pub record SoundParts (p : Picture) (size : ℕ) (header : Header) : Type 0 where

@@ -3,7 +3,7 @@ ghost use Rattle.std.specs.Prelude.{◌≡◌, ◌*◌, ◌≤◌};
 ghost use Rattle.slices.specs.Stores.{turns};
 
 // What every kind of slices takes. Any value can be passed; a job refuses what is out of range. C passes such a value, and definitions are about
-// it, so what a job has found (`Checked`) stands in contracts and not in the type.
+// it, so what a job has found (`Checked`) is said by the types that hold a picture after that (SlicePart), and by contracts where there is none yet.
 #[derive(Clone, Copy)]
 pub struct Picture {
     pub luma_width: u32,

@@ -23,7 +23,7 @@ use runs::{Span, read_run};
 // How many values are read before they are put where they belong: a row of two planes, or more rows.
 const RUN: usize = 8192;
 
-// A part of slice number `slice`: whose values it has, the slice's quantiser index, and where its data stand.
+// A part of slice number `slice` of a picture that passed the checks: whose values it has, the slice's quantiser index, and where its data stand.
 #[derive(Clone, Copy)]
 pub struct SlicePart {
     pub picture: Picture,
@@ -31,6 +31,23 @@ pub struct SlicePart {
     pub holder: Holder,
     pub index: u32,
     pub span: Span,
+    pub ghost checked: { Checked picture },
+    pub ghost counted: { slice < slice_count picture },
+    pub ghost indexed: { Indexed picture index },
+    pub ghost sound: { SoundSpan span },
+}
+
+impl SlicePart {
+    // The plane, or each of two, that its values go to.
+    fn grid(self) -> Grid
+        ensures { (result ≡ grid_for self.picture self.holder) × Whole result }
+    {
+        let p = self.picture;
+        match self.holder {
+            Holder::Luma => grid_of(p, p.luma_width, p.luma_height),
+            Holder::Both => grid_of(p, p.chroma_width, p.chroma_height),
+        }
+    }
 }
 
 // A rectangle of a part: whose values it has, where they go, where its data stand, and what they are decoded by.
@@ -43,8 +60,9 @@ pub struct Piece<'a> {
 }
 
 // Reads the values of a part: all, or up to one that is refused. They go through a run of zeros, which holds zeros again after the last. After a
-// refusal the planes and the run are free, so that the run holds zeros is no fact of a type; a job zeroes its planes then. So it is of the
-// functions below.
+// refusal the planes and the run are free; a job zeroes its planes then. So it is of the functions below.
+// `Lengths` and `Blank` stay clauses, here and in low_delay: they are of what is lent, and a struct that said them would have to be lent on at each
+// call; nor does a run hold zeros after a refusal.
 pub fn read_part(
     planes: &mut ThreePlanes<'_>,
     part: SlicePart,
@@ -52,7 +70,6 @@ pub fn read_part(
     run: &mut [i32],
     tables: Tables<'_>,
 ) -> Result<usize, Fault>
-    requires sound { Checked part.picture × (part.slice < slice_count part.picture) × Indexed part.picture part.index × SoundSpan part.span }
     requires planes { Lengths part.picture planes.old.luma.now planes.old.first.now planes.old.second.now × Blank run.old }
     requires tables { tables.intra ≡ part.picture.intra }
     ensures same { SamePlanes planes.old planes.new }
@@ -62,7 +79,7 @@ pub fn read_part(
 {
     let p = part.picture;
     let holder = part.holder;
-    let slice = Slice::new(grid_for(p, holder), part.slice);
+    let slice = Slice::new(part.grid(), part.slice);
     let count = subband_count(p.depth as usize);
     let mut span = part.span;
     for k in 0..count {
@@ -75,17 +92,6 @@ pub fn read_part(
         span.bit = read_area(planes, piece, bytes, run)?;
     }
     Ok(span.bit)
-}
-
-// The plane, or each of two, that a part's values go to.
-fn grid_for(p: Picture, holder: Holder) -> Grid
-    requires { Checked p }
-    ensures { (result ≡ grid_for p holder) × Whole result }
-{
-    match holder {
-        Holder::Luma => grid_of(p, p.luma_width, p.luma_height),
-        Holder::Both => grid_of(p, p.chroma_width, p.chroma_height),
-    }
 }
 
 // Reads the values of a rectangle, all rows at once where the run has room for them.

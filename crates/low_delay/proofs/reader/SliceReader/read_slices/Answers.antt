@@ -9,7 +9,7 @@ use Rattle.slices.proofs.ReadsLaws.{blank-zeros, left-on}
 use Rattle.slices.proofs.StoresLaws.{same_planes-then}
 use Rattle.low_delay.specs.Job.{result, outcome}
 use Rattle.low_delay.proofs.JobLaws.{zeros-same, slices-read, slices-refused, slices-over}
-use Rattle.low_delay.proofs.read_slices.Goals as goal
+use Rattle.low_delay.proofs.reader.SliceReader.read_slices.Goals as goal
 
 pub loop-k-init : goal.loop-k-init
 loop-k-init c =
@@ -19,11 +19,7 @@ loop-k-init c =
 pub read_slice-requires : goal.read_slice-requires
 read_slice-requires c =
     let inv = c.loop-k.invariant in
-    record {
-      sound = (c.requires.0, c.requires.1, omega (arith, c.loop-k-test, c.slice_count-count.ensures.0));
-      planes = (lengths-same _ _ _ inv.1.1 c.requires.2, inv.3);
-      tables = c.new-tables.ensures;
-    }
+    record { counted = omega (arith, c.loop-k-test, c.slice_count-count.ensures.0); planes = (lengths-same _ _ _ inv.1.1 c.requires, inv.3) }
 
 pub loop-k-preserved : goal.loop-k-preserved
 loop-k-preserved c =
@@ -49,7 +45,7 @@ returns-in-Err-clause-ended c =
 
 pub finish-requires : goal.finish-requires
 finish-requires c =
-    (c.requires.0, c.requires.1, lengths-same _ _ _ c.loop-k.invariant.1.1 c.requires.2)
+    lengths-same _ _ _ c.loop-k.invariant.1.1 c.requires
 
 pub returns-clause-ended : goal.returns-clause-ended
 returns-clause-ended c =
