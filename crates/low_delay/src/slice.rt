@@ -1,5 +1,5 @@
 // Document 02, request Four: one low delay slice: its bytes, its header, and its two parts.
-ghost use Rattle.std.specs.Prelude.{ℕ, suc, ◌+◌, ◌*◌, ◌<◌, ◌^◌, ◌≡◌, length};
+ghost use Rattle.std.specs.Prelude.{ℕ, suc, ◌+◌, ◌*◌, ◌<◌, ◌^◌, length};
 ghost use Rattle.coefficients.specs.Reading.{goes_on};
 ghost use Rattle.slices.specs.Areas.{slice_count};
 ghost use Rattle.slices.specs.Parts.{parts_values};

@@ -39,7 +39,7 @@ pub struct SlicePart {
 
 impl SlicePart {
     // The plane, or each of two, that its values go to.
-    fn grid(self) -> Grid
+    fn own_grid(self) -> Grid
         ensures { (result ≡ grid_for self.picture self.holder) × Whole result }
     {
         let p = self.picture;
@@ -61,8 +61,8 @@ pub struct Piece<'a> {
 
 // Reads the values of a part: all, or up to one that is refused. They go through a run of zeros, which holds zeros again after the last. After a
 // refusal the planes and the run are free; a job zeroes its planes then. So it is of the functions below.
-// `Lengths` and `Blank` stay clauses, here and in low_delay: they are of what is lent, and a struct that said them would have to be lent on at each
-// call; nor does a run hold zeros after a refusal.
+// `Lengths` and `Blank` stay clauses, here and in low_delay: they are of planes and of a run that change, and a struct that said them would have to
+// lend these on at each call; nor does a run hold zeros after a refusal.
 pub fn read_part(
     planes: &mut ThreePlanes<'_>,
     part: SlicePart,
@@ -79,7 +79,7 @@ pub fn read_part(
 {
     let p = part.picture;
     let holder = part.holder;
-    let slice = Slice::new(part.grid(), part.slice);
+    let slice = Slice::new(part.own_grid(), part.slice);
     let count = subband_count(p.depth as usize);
     let mut span = part.span;
     for k in 0..count {

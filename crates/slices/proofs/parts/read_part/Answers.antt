@@ -18,7 +18,7 @@ use Rattle.slices.proofs.parts.read_part.Goals as goal
 use Rattle.slices.proofs.parts.read_part.Goals.{After-area_at, After-read_area, In-loop-k}
 
 pub new-slice-requires : goal.new-slice-requires
-new-slice-requires c = (c.grid.ensures.1, rw c.grid.ensures.0 (grid-counted c.args.part.picture c.args.part.holder _ c.args.part.counted))
+new-slice-requires c = (c.own_grid.ensures.1, rw c.own_grid.ensures.0 (grid-counted c.args.part.picture c.args.part.holder _ c.args.part.counted))
 
 pub loop-k-init : goal.loop-k-init
 loop-k-init c =
@@ -29,18 +29,18 @@ in-turn : (c : In-loop-k) → c.loop-k.k < subband_count c.args.part.picture.dep
 in-turn c = omega (arith, c.loop-k-test, c.subband_count-count.ensures)
 
 pub area_at-requires : goal.area_at-requires
-area_at-requires c = rw (c.new-slice.ensures.0, c.grid.ensures.0) (grid-depth c.args.part.picture c.args.part.holder _ (in-turn (goal.at.area_at-requires c).In-loop-k))
+area_at-requires c = rw (c.new-slice.ensures.0, c.own_grid.ensures.0) (grid-depth c.args.part.picture c.args.part.holder _ (in-turn (goal.at.area_at-requires c).In-loop-k))
 
 -- its rectangle is the slice's
 area-is : (c : After-area_at) → c.area_at.result ≡ slice_area (grid_for c.args.part.picture c.args.part.holder) c.args.part.slice c.loop-k.k
 area-is c =
     let slice = c.new-slice.ensures in
-    rw (slice.0, slice.1, c.grid.ensures.0) at c.area_at.ensures
+    rw (slice.0, slice.1, c.own_grid.ensures.0) at c.area_at.ensures
 
 pub read_area-requires : goal.read_area-requires
 read_area-requires c =
     let inv = c.loop-k.invariant in
-    let whole = rw c.grid.ensures.0 at c.grid.ensures.1 in
+    let whole = rw c.own_grid.ensures.0 at c.own_grid.ensures.1 in
     let lengths = lengths-same c.args.part.picture (planes_behind c.args.planes.now) (planes_behind c.loop-k.planes) inv.1.1 c.requires.planes.0 in (
       rw (area-is (goal.at.read_area-requires c).After-area_at)
           (part-fits c.args.part.picture c.args.part.holder whole _ c.args.part.counted _ (in-turn (goal.at.read_area-requires c).In-loop-k) (planes_behind c.loop-k.planes) lengths),
@@ -58,7 +58,7 @@ band-left : (c : After-read_area) (result : Result ℕ Fault) → c.read_area.re
 band-left c result is =
     let inv = c.loop-k.invariant in
     let slice = c.new-slice.ensures in
-    let area = rw (slice.0, slice.1, c.grid.ensures.0) at c.area_at.ensures in
+    let area = rw (slice.0, slice.1, c.own_grid.ensures.0) at c.area_at.ensures in
     left-again _ _ _ inv.4 inv.5 _ _ _ _ _ _ _ (rw (is, area, c.decoder.ensures, c.requires.tables, c.subband_index.ensures) at c.read_area.ensures.read)
 
 pub returns-in_err-span-clause-read : goal.returns-in_err-span-clause-read
