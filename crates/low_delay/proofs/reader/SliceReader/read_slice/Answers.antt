@@ -65,13 +65,6 @@ read_header-requires c =
     let k = c.args.number in
     (omega (arith, own, size-least p sound.denominator_least sound.denominator_most k), omega (arith, own, size-most p sound.denominator_least k, sound.numerator_most), omega (arith, c.slice_start-start.ensures.1))
 
-pub read_parts-requires : goal.read_parts-requires
-read_parts-requires c =
-    record {
-      sound = (c.requires.counted, omega (arith, c.slice_start-start.ensures.1, own_is (goal.at.read_parts-requires c).Else-self-next, size-most c.args.self.p c.args.self.fraction.denominator_least c.args.number, c.args.self.fraction.numerator_most), c.in_ok-header.ensures.sound_header);
-      planes = c.requires.planes;
-    }
-
 pub returns-in_err-header-clause-read : goal.returns-in_err-header-clause-read
 returns-in_err-header-clause-read c =
     let refused = err_from_is_err_and c.from_residual.result c.from_residual.ensures.1 in

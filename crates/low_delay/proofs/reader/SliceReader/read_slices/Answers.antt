@@ -4,7 +4,6 @@ use native.Mathlib.Numerals.{add-one}
 use native.Mathlib.Omega.{arith}
 use Rattle.base.specs.Refusals.{number_of}
 use Rattle.slices.specs.Stores.{planes_behind}
-use Rattle.slices.proofs.PartsLaws.{lengths-same}
 use Rattle.slices.proofs.ReadsLaws.{blank-zeros, left-on}
 use Rattle.slices.proofs.StoresLaws.{same_planes-then}
 use Rattle.low_delay.specs.Job.{result, outcome}
@@ -15,11 +14,6 @@ pub loop-k-init : goal.loop-k-init
 loop-k-init c =
     let whole : c.slice_count-count.result ≡ c.slice_count-count.result - 0 = omega arith in
     (omega arith, ((refl, refl, refl), (refl, refl, refl)), refl, blank-zeros, rw (← whole) refl)
-
-pub read_slice-requires : goal.read_slice-requires
-read_slice-requires c =
-    let inv = c.loop-k.invariant in
-    record { counted = omega (arith, c.loop-k-test, c.slice_count-count.ensures.0); planes = (lengths-same _ _ _ inv.1.1 c.requires, inv.3) }
 
 pub loop-k-preserved : goal.loop-k-preserved
 loop-k-preserved c =
@@ -42,10 +36,6 @@ returns-in-Err-clause-ended c =
     (c.zero_planes.ensures.zeroed ∙ zeros-same _ (planes_behind c.loop-k.planes) long.0 long.1 long.2)
     ∙ sym (slices-refused _ _ c.loop-k.k _ _ _ _ _ left (sym c.in-Err.ensures.read.progress_is))
     ∙ sym c.loop-k.invariant.4 ∙ rw count refl
-
-pub finish-requires : goal.finish-requires
-finish-requires c =
-    lengths-same _ _ _ c.loop-k.invariant.1.1 c.requires
 
 pub returns-clause-ended : goal.returns-clause-ended
 returns-clause-ended c =
