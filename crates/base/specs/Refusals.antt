@@ -3,6 +3,10 @@ use Rattle.std.specs.Prelude.{ℕ, Result, Ok, Err}
 use Rattle.base.specs.declared.status.Refusal.{Refusal}
 use Rattle.base.specs.declared.status.Refusal.TheVariants.{Size, Depth, Wavelet, Codeblocks, Planes, BytesEndEarly, CodeTooLong, Quantiser, ValueOutOfRange, SynthesisOutOfRange, BytesLeftOver, Slices, LumaLength}
 
+-- "width or height outside range", "depth outside range", "wavelet index outside range", "a block count that matters is outside range", "a lent
+-- plane hasn't exactly the length it needs", "bytes end early", "a number code is too long", "quantiser index above 115", "an unpacked or
+-- predicted value is outside signed 32 bits", "a number assigned in synthesis is outside signed 32 bits"; and of document 02, bytes left over,
+-- "the counts, the fraction or the matrix" of slices, and a luma length that exceeds the bits left
 abbrev pub number_of : Refusal → ℕ
 number_of Size = 1
 number_of Depth = 2

@@ -116,7 +116,7 @@ pub fn read_run(
     }
 }
 
-// Reads a value or more: many at once where the next bits are there and small values fit.
+// Reads a value or more: many at once where the next bits are there and small values fit; one value where none ends in them.
 fn read_some(
     plane: &mut [i32],
     layout: Layout,
@@ -130,35 +130,17 @@ fn read_some(
     ensures some { (i + result.count ≤ layout.count) × (result.short ≡ false → 1 ≤ result.count) }
 {
     if small_fit(decoder.q) && is_window(bytes, cursor.end, cursor.bit) {
-        return read_window(plane, layout, i, bytes, cursor, decoder);
+        let w = window(bytes, cursor.bit);
+        let batch = read_batch(plane, layout, i, w, decoder);
+        if batch.count != 0 {
+            return Portion {
+                count: batch.count,
+                progress: Ok(cursor.bit + batch.bits),
+                short: false,
+            };
+        }
     }
     read_value(plane, layout, i, bytes, cursor, decoder.q)
-}
-
-// Reads values by the next bits, or one value where none ends in them.
-fn read_window(
-    plane: &mut [i32],
-    layout: Layout,
-    i: usize,
-    bytes: &[u8],
-    cursor: Cursor,
-    decoder: Decoder,
-) -> Portion
-    requires ready { (i < layout.count) × Ready layout i plane.old × Sound cursor }
-    requires there { (small_fit decoder.q ≡ true) × (is_window bytes.now cursor.end cursor.bit ≡ true) }
-    ensures read { Reads bytes.now cursor (scale_of decoder.entry.q) (index_of layout) i plane.old result plane.new }
-    ensures some { (i + result.count ≤ layout.count) × (result.short ≡ false → 1 ≤ result.count) }
-{
-    let w = window(bytes, cursor.bit);
-    let batch = read_batch(plane, layout, i, w, decoder);
-    if batch.count == 0 {
-        return read_value(plane, layout, i, bytes, cursor, decoder.q);
-    }
-    Portion {
-        count: batch.count,
-        progress: Ok(cursor.bit + batch.bits),
-        short: false,
-    }
 }
 
 // Reads values by the bits of a window: the last four one by one; of more, all that are left, or 32, at once where they are zeros; others by

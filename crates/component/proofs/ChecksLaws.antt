@@ -60,9 +60,6 @@ module _ (p : Parameters) where
       (padded-most p.depth (depth_most depth) p.width (width_most sizes))
       (padded-most p.depth (depth_most depth) p.height (height_most sizes))
 
-  pub samples-most : sizes_in_range p ≡ true → p.width * p.height ≤ 16777216
-  samples-most sizes = mul-le-mul (width_most sizes) (height_most sizes)
-
   -- samples are no more than coefficients
   pub samples-fewer : p.width * p.height ≤ area_of p
   unfolding area_of

@@ -11,6 +11,7 @@ pub fn byte_at(file: &[u8], at: usize) -> u32
 }
 
 // The number of two bytes, from an offset on.
+#[tactic(auto, unfolding(crate::specs::Bytes::big_endian))]
 pub fn two_bytes_at(file: &[u8], at: usize) -> u32
     requires { at + 2 ≤ length file.now }
     ensures { (result ≡ big_endian file.now at 2) × (result < 65536) }
@@ -19,6 +20,7 @@ pub fn two_bytes_at(file: &[u8], at: usize) -> u32
 }
 
 // The number of four bytes, from an offset on.
+#[tactic(auto, unfolding(crate::specs::Bytes::big_endian))]
 pub fn four_bytes_at(file: &[u8], at: usize) -> usize
     requires { at + 4 ≤ length file.now }
     ensures { (result ≡ big_endian file.now at 4) × (result < 4294967296) }

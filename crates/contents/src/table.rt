@@ -25,6 +25,7 @@ pub struct Entry {
 }
 
 // How many entries a recording has, where its table is right.
+#[tactic(auto, unfolding(crate::specs::Table::entry_count, crate::specs::Counts::nonzero))]
 pub fn entry_count(file: &[u8]) -> Option<usize>
     ensures { result ≡ nonzero (entry_count file.now) }
 {
@@ -36,6 +37,7 @@ pub fn entry_count(file: &[u8]) -> Option<usize>
 }
 
 // Entry k of a recording whose table is right.
+#[tactic(auto, unfolding(crate::specs::Table::entry_at, crate::specs::Table::offset_at, crate::specs::Table::length_at), using(crate::proofs::TableLaws::entries_bounded, crate::proofs::TableLaws::offset_right))]
 pub fn entry_at(file: &[u8], k: usize) -> Entry
     requires { k < entry_count file.now }
     ensures { result ≡ entry_at file.now k }
@@ -49,6 +51,7 @@ pub fn entry_at(file: &[u8], k: usize) -> Entry
 }
 
 // The parameters of entry k.
+#[tactic(auto, unfolding(crate::specs::Table::parameters_at))]
 fn parameters_at(file: &[u8], k: usize) -> Parameters
     requires { (k < 16) × (entry_offset (k + 1) ≤ length file.now) }
     ensures { result ≡ parameters_at file.now k }
@@ -66,23 +69,16 @@ fn parameters_at(file: &[u8], k: usize) -> Parameters
 }
 
 // Whether the file keeps to the rules for the contents.
+#[tactic(auto, unfolding(crate::specs::Table::table_is_right))]
 fn table_is_right(file: &[u8]) -> bool
     ensures { result ≡ table_is_right file.now }
 {
-    if FILE_MOST < file.len() {
-        return false;
-    }
     let count = stated_count(file);
-    if count < 1 {
-        return false;
-    }
-    if ENTRIES_MOST < count {
-        return false;
-    }
-    if file.len() < entry_offset(count) {
-        return false;
-    }
-    bodies_are_right(file, count)
+    file.len() <= FILE_MOST
+        && 1 <= count
+        && count <= ENTRIES_MOST
+        && entry_offset(count) <= file.len()
+        && bodies_are_right(file, count)
 }
 
 // Whether every entry keeps to the rules, and the last body ends the file.
@@ -101,6 +97,7 @@ fn bodies_are_right(file: &[u8], count: usize) -> bool
 }
 
 // Whether entry k keeps to the rules, where its body has to start at `start`.
+#[tactic(auto, unfolding(crate::specs::Table::entry_is_right, crate::specs::Table::offset_at))]
 fn entry_is_right(file: &[u8], k: usize, start: usize) -> bool
     requires { (k < 16) × (entry_offset (k + 1) ≤ length file.now) × (start ≡ body_start file.now k) }
     ensures { result ≡ entry_is_right file.now k }
@@ -130,6 +127,7 @@ fn entry_offset(k: usize) -> usize
 }
 
 // The codeblock counts of five levels, which stand in every other byte from an offset on.
+#[tactic(auto, unfolding(crate::specs::Table::codeblock_counts))]
 fn codeblock_counts(file: &[u8], at: usize) -> [u32; 5]
     requires { at + 8 < length file.now }
     ensures { result ≡ codeblock_counts file.now at }
@@ -144,6 +142,7 @@ fn codeblock_counts(file: &[u8], at: usize) -> [u32; 5]
 }
 
 // A codeblock count as a byte states it, 0 for the default. The maximum of the byte and 1 is the same, but does not say so.
+#[tactic(auto, unfolding(crate::specs::Table::codeblock_count))]
 fn codeblock_count(byte: u32) -> u32
     ensures { result ≡ codeblock_count byte }
 {

@@ -9,7 +9,7 @@ use native.Mathlib.Nat.{le_refl, le_trans, le-div_iff_mul-le, mul-le-mul_left}
 use native.Mathlib.Omega.{arith}
 use lib.Dec.{ltb}
 use lib.IntN.{ℤ, pos, negsuc, nat_abs, ◌+ℤ◌, ◌*ℤ◌}
-use lib.ListN.{length, get_or, take}
+use lib.ListN.{get_or, take}
 use lib.Pow.{pow_pos}
 use borrow.Author.Tests.{ltb-true, lt-ltb, le-ltb}
 use Rattle.base.specs.Every.{all_below}
@@ -22,11 +22,12 @@ use Rattle.base.proofs.RangeLaws.{below-fits32, fits32-below}
 use Rattle.lines.specs.Buffers.{Within}
 use Rattle.lines.specs.Sums.{sum_below, sizes_below, tap_at, changed}
 use Rattle.lines.proofs.SumsLaws.{sizes-front, sizes-product, sum-sizes}
-use Rattle.filters.specs.Lifting.{Step, changes_even, adds, rounding}
+use Rattle.filters.specs.Lifting.{Step, changes_even, rounding}
 use Rattle.filters.specs.Filters.{filter_of, deslauriers_dubuc97, le_gall53, deslauriers_dubuc137, haar_steps, haar, haar_with_shift, fidelity, daubechies97}
 use Rattle.filters.specs.Bounds.{sum_most, new_most, stays_small, target_after, bound_of, source_bound, target_bound, bounds_after}
-use Rattle.filters.specs.Table.{step_of, sizes_of, gain_of, WellFormedStep}
-use Rattle.filters.specs.declared.filter.LiftingStep.{LiftingStep}
+use Rattle.filters.specs.Steps.{step_of}
+use Rattle.filters.specs.Table.{sizes_of, gain_of}
+use Rattle.filters.specs.declared.step.LiftingStep.{LiftingStep}
 use Rattle.filters.specs.declared.bounds.Bounds.{Bounds}
 use Rattle.filters.proofs.LiftingLaws.{rounding-most}
 use Rattle.filters.proofs.TableLaws.{type-says}
@@ -69,12 +70,11 @@ abbrev pub step_sum : LiftingStep → (ℕ → ℤ) → ℤ
 step_sum r v = rounding r.scale +ℤ sum_below (λ t. get_or r.taps t (pos 0) *ℤ v t) r.count
 
 -- A step whose sums are made of numbers that are at most m in size.
-module _ (r : LiftingStep) (formed : WellFormedStep r) (m : ℕ) where
+module _ (r : LiftingStep) (m : ℕ) where
   -- the taps' products together are no larger than the gain says
   products-size : (v : ℕ → ℤ) → ((t : ℕ) → t < r.count → nat_abs (v t) ≤ m) → sizes_below (λ t. get_or r.taps t (pos 0) *ℤ v t) r.count ≤ r.gain * m
-  unfolding step_of gain_of
   products-size v read =
-      rw (formed.gain_exact, ← list-sizes r.taps r.count) (sizes-product (λ t. get_or r.taps t (pos 0)) v m r.count read)
+      rw r.gain_exact (sizes-product (λ t. get_or r.taps t (pos 0)) v m r.count read)
 
   -- where the step stays small, that is within 32 bits, the rounding included
   pub products-room :
@@ -82,7 +82,7 @@ module _ (r : LiftingStep) (formed : WellFormedStep r) (m : ℕ) where
       → nat_abs (rounding r.scale) + sizes_below (λ t. get_or r.taps t (pos 0) *ℤ v t) r.count < 2 ^ 31
   unfolding stays_small sum_most
   products-room target v small read =
-      omega (arith, products-size v read, rounding-most r.scale formed.small_scale, ltb-true (r.gain * m + 2 ^ 11) (2 ^ 31) (and_left _ _ small))
+      omega (arith, products-size v read, rounding-most r.scale r.small_scale, ltb-true (r.gain * m + 2 ^ 11) (2 ^ 31) (and_left _ _ small))
 
   module _ (v : ℕ → ℤ) (read : (t : ℕ) → t < r.count → nat_abs (v t) ≤ m) where
     -- the sum
@@ -90,7 +90,7 @@ module _ (r : LiftingStep) (formed : WellFormedStep r) (m : ℕ) where
     unfolding sum_most
     sum-size =
         let taps : ℕ → ℤ = λ t. get_or r.taps t (pos 0) *ℤ v t in
-        omega (arith, size-add (rounding r.scale) (sum_below taps r.count), sum-sizes taps r.count, products-size v read, rounding-most r.scale formed.small_scale)
+        omega (arith, size-add (rounding r.scale) (sum_below taps r.count), sum-sizes taps r.count, products-size v read, rounding-most r.scale r.small_scale)
 
     -- the new number
     pub new-size :
@@ -121,7 +121,7 @@ module _ (r : LiftingStep) (formed : WellFormedStep r) (m : ℕ) where
 
 -- A step over a line of sums, each from its own starts in a source, whose numbers are at most m in size; the step stays small.
 module _
-    (r : LiftingStep) (formed : WellFormedStep r) (source : List ℤ) (starts : List ℕ) (width m target : ℕ)
+    (r : LiftingStep) (source : List ℤ) (starts : List ℕ) (width m target : ℕ)
     (reads : (t : ℕ) → t < r.count → Within source (get_or starts t 0) width m)
     (small : stays_small r m target ≡ true) (round : ℤ) (rounded : round ≡ rounding r.scale)
   where
@@ -129,7 +129,7 @@ module _
     pub products-fit : (x : ℕ) → x < width → nat_abs round + sizes_below (tap_at r.taps starts source x) r.count < 2 ^ 31
     unfolding tap_at
     products-fit x below =
-        rw rounded (products-room r formed m target (λ t. get_or source (get_or starts t 0 + x) (pos 0)) small (λ t inside. reads t inside x below))
+        rw rounded (products-room r m target (λ t. get_or source (get_or starts t 0 + x) (pos 0)) small (λ t inside. reads t inside x below))
 
     -- the new numbers fit 32 bits
     pub line_fits :
@@ -138,7 +138,7 @@ module _
     unfolding tap_at
     line_fits line start old x below =
         rw rounded
-        (new-fits r formed m (λ t. get_or source (get_or starts t 0 + x) (pos 0)) (λ t inside. reads t inside x below) (get_or line (start + x) (pos 0)) target (old x below) small)
+        (new-fits r m (λ t. get_or source (get_or starts t 0 + x) (pos 0)) (λ t inside. reads t inside x below) (get_or line (start + x) (pos 0)) target (old x below) small)
 
 -- a size chosen of two that a bound covers
 most-chosen : (first : Bool) (a b n : ℕ) → (first ≡ true → a ≤ n) → b ≤ n → cond first a b ≤ n
@@ -246,45 +246,54 @@ unfoldable pub pass_small : List LiftingStep → Bounds → Bool
 pass_small [] bounds = true
 pass_small (r ∷ rs) bounds = stays_from r bounds && pass_small rs (bounds_after r bounds)
 
--- Rows of the table that keep to their bounds.
-unfoldable pub AllWellFormed : List LiftingStep → Type 0
-AllWellFormed [] = Unit {0}
-AllWellFormed (r ∷ rs) = WellFormedStep r × AllWellFormed rs
+-- The same of document 01's steps, whose numbers are of any size.
+abbrev sum_by : Step → ℕ → ℕ
+sum_by s source = gain_of s * source + 2 ^ 11
 
--- A row of which the sizes alone are a step's.
-abbrev size_row : Step → LiftingStep
-size_row s =
-    record {
-      even = changes_even s.type;
-      adds = adds s.type;
-      lead = 0;
-      taps = s.taps;
-      count = length s.taps;
-      scale = s.scale;
-      gain = gain_of s;
-    }
+abbrev new_by : Step → ℕ → ℕ → ℕ
+new_by s source target = target + sum_by s source / 2 ^ s.scale + 1
 
--- a step of the table goes as far as document 01's
+abbrev stays_by : Step → ℕ → ℕ → Bool
+stays_by s source target = ltb (sum_by s source) (2 ^ 31) && ltb (new_by s source target) (2 ^ 31)
+
+abbrev target_by : Step → ℕ → ℕ → ℕ
+target_by s source target = cond (stays_by s source target) (new_by s source target) (2 ^ 31)
+
+abbrev step_stays : Step → Bounds → Bool
+step_stays s bounds = stays_by s (bound_of bounds (not (changes_even s.type))) (bound_of bounds (changes_even s.type))
+
+abbrev step_after : Step → Bounds → Bounds
+step_after s bounds =
+    cond (changes_even s.type)
+    (bounds_pair (target_by s bounds.odd bounds.even) bounds.odd)
+    (bounds_pair bounds.even (target_by s bounds.even bounds.odd))
+
+unfoldable pass_stays : List Step → Bounds → Bool
+pass_stays [] bounds = true
+pass_stays (s ∷ ss) bounds = step_stays s bounds && pass_stays ss (step_after s bounds)
+
+-- a step goes as far as document 01's
 size_same :
-    (r : LiftingStep) (bounds : Bounds) → WellFormedStep r
-    → (stays_from r bounds ≡ stays_from (size_row (step_of r)) bounds) × (bounds_after r bounds ≡ bounds_after (size_row (step_of r)) bounds)
-unfolding step_of sum_most new_most stays_small target_after bounds_after
-size_same r bounds formed =
+    (r : LiftingStep) (bounds : Bounds)
+    → (stays_from r bounds ≡ step_stays (step_of r) bounds) × (bounds_after r bounds ≡ step_after (step_of r) bounds)
+unfolding step_of gain_of sum_most new_most stays_small target_after bounds_after
+size_same r bounds =
     let even = (type-says r.even r.adds).0 in
-    (rw (even, ← formed.gain_exact), rw (even, ← formed.gain_exact))
+    let gain = r.gain_exact ∙ list-sizes r.taps r.count in
+    (rw (even, ← gain), rw (even, ← gain))
 
-pass_same : (rs : List LiftingStep) (bounds : Bounds) → AllWellFormed rs → pass_small rs bounds ≡ pass_small (map size_row (map step_of rs)) bounds
-unfolding pass_small AllWellFormed
-pass_same [] bounds formed = refl
-pass_same (r ∷ rs) bounds formed =
-    let same = size_same r bounds formed.0 in
-    rw (same.0, same.1) (ap (λ (b : Bool). stays_from (size_row (step_of r)) bounds && b) (pass_same rs (bounds_after (size_row (step_of r)) bounds) formed.1))
+pass_same : (rs : List LiftingStep) (bounds : Bounds) → pass_small rs bounds ≡ pass_stays (map step_of rs) bounds
+unfolding pass_small pass_stays
+pass_same [] bounds = refl
+pass_same (r ∷ rs) bounds =
+    let same = size_same r bounds in
+    rw (same.0, same.1) (ap (λ (b : Bool). step_stays (step_of r) bounds && b) (pass_same rs (step_after (step_of r) bounds)))
 
 -- The growth law of the table: a pass of any of the seven filters over numbers of at most 2^16 + 1 stays small at every step.
 pub pass-small :
-    (wavelet : ℕ) (rs : List LiftingStep) → wavelet ≤ 6 → AllWellFormed rs → map step_of rs ≡ (filter_of wavelet).steps
+    (wavelet : ℕ) (rs : List LiftingStep) → wavelet ≤ 6 → map step_of rs ≡ (filter_of wavelet).steps
     → pass_small rs (bounds_pair (2 ^ 16 + 1) (2 ^ 16 + 1)) ≡ true
-unfolding all_below filter_of deslauriers_dubuc97 le_gall53 deslauriers_dubuc137 haar_steps haar haar_with_shift fidelity daubechies97 changes_even adds sizes_of gain_of sum_most new_most stays_small target_after bound_of bounds_after pass_small
-pass-small wavelet rs h formed same =
-    pass_same rs _ formed
-    ∙ rw same (all-at (λ w. pass_small (map size_row (filter_of w).steps) (bounds_pair (2 ^ 16 + 1) (2 ^ 16 + 1))) 7 wavelet refl (omega arith))
+unfolding all_below filter_of deslauriers_dubuc97 le_gall53 deslauriers_dubuc137 haar_steps haar haar_with_shift fidelity daubechies97 changes_even sizes_of gain_of bound_of pass_stays
+pass-small wavelet rs h same =
+    pass_same rs _
+    ∙ rw same (all-at (λ w. pass_stays (filter_of w).steps (bounds_pair (2 ^ 16 + 1) (2 ^ 16 + 1))) 7 wavelet refl (omega arith))

@@ -15,9 +15,9 @@ use lib.ListN.{get_or}
 use borrow.Author.Tests.{lt-ltb, le-ltb, eq-eqb, eqb-true, ne_eqb}
 use Rattle.lines.specs.Sums.{sum_below, changed}
 use Rattle.filters.specs.Lifting.{Line, adds, clamp, read_position, tap_sum, rounding, update, changes, lift}
-use Rattle.filters.specs.Table.{step_of, type_of}
+use Rattle.filters.specs.Steps.{step_of, type_of}
 use Rattle.filters.specs.Pictures.{target_row, source_row}
-use Rattle.filters.specs.declared.filter.LiftingStep.{LiftingStep}
+use Rattle.filters.specs.declared.step.LiftingStep.{LiftingStep}
 use Rattle.lines.proofs.SumsLaws.{sum-taken}
 use Rattle.filters.proofs.LiftingLaws.{tap-sum}
 use Rattle.filters.proofs.TableLaws.{type-says}

@@ -20,13 +20,15 @@ use Rattle.base.proofs.Booleans.{and_left, and_right}
 use Rattle.filters.specs.Lifting.{Step, StepType, type1, type2, type3, type4, changes, changes_even, adds}
 use Rattle.filters.specs.Filters.{filter_table, filter_of, deslauriers_dubuc97, le_gall53, deslauriers_dubuc137, haar_steps, haar, haar_with_shift, fidelity, daubechies97}
 use Rattle.filters.specs.Passes.{Pass, Picture, rows, run, run_all, assigns, new_fit, all_new_fit}
-use Rattle.filters.specs.Table.{listed_type, listed_step, table_steps, listed_filter, type_of, step_of, sizes_of, gain_of, lead_of, record_of, WellFormedStep, filter_from, changed_by_some, WellFormed, RowListed, FilterListed, StepsListed, FiltersListed, StepAt, StepsFrom}
+use Rattle.filters.specs.Steps.{type_of, step_of, steps_in_use, changed_by_some}
+use Rattle.filters.specs.Table.{listed_type, listed_step, table_steps, listed_filter, lead_of, WellFormedRow, filter_from, RowListed, FilterListed, StepsListed, FiltersListed, StepAt, StepsFrom}
 use Rattle.filters.specs.declared.filter.LiftingFilter.{LiftingFilter}
-use Rattle.filters.specs.declared.filter.LiftingStep.{LiftingStep}
+use Rattle.filters.specs.declared.step.LiftingStep.{LiftingStep}
 use Rattle.filters.specs.declared.table.TableFilter.{TableFilter}
 use Rattle.filters.specs.declared.table.TableStep.{TableStep}
 use Rattle.base.specs.Range.{fits32}
 use Rattle.lines.specs.Buffers.{shifted}
+use Rattle.lines.specs.Sums.{sizes_below}
 use Rattle.lines.proofs.BuffersLaws.{shifted_fits}
 use Rattle.filters.proofs.PassesLaws.{new-each, run-keeps}
 
@@ -76,12 +78,15 @@ same_int-told a b e = by a b (eqb-true _ _ (and_left (eqb (nat_abs a) (nat_abs b
 even-else : (n : ℕ) → eqb n 1 || eqb n (2 * (n / 2)) ≡ true → n ≢ 1 → n ≡ 2 * (n / 2)
 even-else n e other = eqb-true n (2 * (n / 2)) (rw (ne_eqb n 1 other) at e)
 
-module _ (r : LiftingStep) where
+module _ (row : TableStep) where
   abbrev count : ℕ
-  count = r.count
+  count = row.3
+
+  abbrev lead : ℕ
+  lead = lead_of (changes_even (listed_type row.0)) row.1
 
   abbrev tap : ℕ → ℤ
-  tap t = get_or r.taps t (pos 0)
+  tap t = get_or row.2 t (pos 0)
 
   -- The tests of a step's sizes, and of its taps.
   abbrev small_tap : ℕ → Bool
@@ -96,31 +101,29 @@ module _ (r : LiftingStep) where
   abbrev tests : List Bool
   tests =
       leb count 8
-      ∷ leb (r.lead + count) 9
-      ∷ leb r.scale 12
+      ∷ leb (lead + count) 9
+      ∷ leb row.4 12
       ∷ all_below 8 small_tap
       ∷ leb 1 count
       ∷ (eqb count 1 || eqb count (2 * (count / 2)))
       ∷ all_below count mirrored
       ∷ all_below count real
-      ∷ eqb r.gain (gain_of (step_of r))
-      ∷ leb r.gain (2 ^ 14)
+      ∷ leb (sizes_below tap count) (2 ^ 14)
       ∷ []
 
   -- what they say
-  well-formed-step : all_of tests ≡ true → WellFormedStep r
-  well-formed-step e =
+  well-formed-row : all_of tests ≡ true → WellFormedRow row
+  well-formed-row e =
       let passed : (k : ℕ) → get_or tests k true ≡ true = nth-passes tests e in
       record {
         few_taps = leb-true count 8 (passed 0);
-        in_buffer = leb-true (r.lead + count) 9 (passed 1);
-        small_scale = leb-true r.scale 12 (passed 2);
+        in_buffer = leb-true (lead + count) 9 (passed 1);
+        small_scale = leb-true row.4 12 (passed 2);
         small_taps = λ t h. leb-true _ (2 ^ 13) (all-at small_tap 8 t (passed 3) h);
         some_taps = leb-true 1 count (passed 4);
         symmetric = (even-else count (passed 5), λ t h. same_int-told _ _ (all-at mirrored count t (passed 6) h));
         real_taps = λ t h. leb-true 1 _ (all-at real count t (passed 7) h);
-        gain_exact = eqb-true r.gain (gain_of (step_of r)) (passed 8);
-        gain_most = leb-true r.gain (2 ^ 14) (passed 9);
+        gain_most = leb-true (sizes_below tap count) (2 ^ 14) (passed 8);
       }
 
 -- how long the lists of document 01 are
@@ -137,7 +140,7 @@ map-length f l m n same long = sym (length-map l f) ∙ ap length same ∙ long
 
 -- The test of a row of the table.
 abbrev pub row_test : TableStep → Bool
-row_test row = leb (mag row.1) 2 && all_of (tests (record_of row))
+row_test row = leb (mag row.1) 2 && all_of (tests row)
 
 -- a table that lists document 01's steps, and whose rows pass
 pub steps-listed : (table : List TableStep) → map listed_step table ≡ table_steps → every_entry row_test table ≡ true → StepsListed table
@@ -154,7 +157,7 @@ steps-listed table same all = record { each = each }
               ∙ any-default (map listed_step table) i default (listed_step other) (rw (length-map table listed_step) inside)
               ∙ get_or-map listed_step table i other;
           small_first = leb-true (mag row.1) 2 (and_left (leb (mag row.1) 2) _ passed);
-          well_formed = well-formed-step (record_of row) (and_right (leb (mag row.1) 2) _ passed);
+          well_formed = well-formed-row row (and_right (leb (mag row.1) 2) _ passed);
         }
 
 -- The test of a filter of the table.
@@ -183,7 +186,7 @@ filters-listed table same all = record { each = each }
           inside = leb-true (row.0 + row.1) 14 (and_right (leb row.1 4) _ rest);
         }
 
--- the first offset of a record is that of the row, and so its step is the row's
+-- the first offset of a record is that of the row
 sum-positive : (first : ℤ) (n : ℕ) → mag first < n → pos (nat_abs (first +ℤ pos n)) ≡ first +ℤ pos n
 sum-positive (pos a) n small = refl
 sum-positive (negsuc a) n small = rw (le-ltb n (suc a) (omega arith))
@@ -200,52 +203,47 @@ type-back type2 = refl
 type-back type3 = refl
 type-back type4 = refl
 
-record-step : (row : TableStep) → mag row.1 ≤ 2 → step_of (record_of row) ≡ listed_step row
-unfolding step_of record_of listed_step
-record-step row small = rw (type-back _, lead-back _ row.1 small)
+-- and so is the step that is made of its parts
+pub step-made :
+    (row : TableStep) (even added : Bool) (lead : ℕ) (first : ℤ) → even ≡ changes_even (listed_type row.0) → added ≡ adds (listed_type row.0)
+    → first ≡ row.1 → lead ≡ lead_of even first → mag row.1 ≤ 2
+    → record { type = type_of even added; first = pos lead -ℤ pos (cond even 3 4); taps = take row.3 row.2; scale = row.4 } ≡ listed_step row
+unfolding listed_step
+step-made row even added lead first e a f l small = rw (l, f, e, a, type-back _, lead-back _ row.1 small)
 
-pub row-record : (i : ℕ) (row : TableStep) → RowListed i row → (r : LiftingStep) → r ≡ record_of row → StepAt i r
-row-record i row listed r same = rw same (λ other. listed.same other ∙ sym (record-step row listed.small_first), listed.well_formed)
-
--- a record is made of its parts
-pub record-made :
-    (row : TableStep) (even added : Bool) (lead gain : ℕ) (first : ℤ) → even ≡ changes_even (listed_type row.0) → added ≡ adds (listed_type row.0)
-    → first ≡ row.1 → lead ≡ lead_of even first → gain ≡ sizes_of (take row.3 row.2)
-    → record { even = even; adds = added; lead = lead; taps = row.2; count = row.3; scale = row.4; gain = gain } ≡ record_of row
-unfolding record_of
-record-made row even added lead gain first e a f l g = rw (l, g, f, e, a)
-
--- one tap more
-pub sizes-more : (l : List ℤ) (t : ℕ) → sizes_of (take (suc t) l) ≡ sizes_of (take t l) + nat_abs (get_or l t (pos 0))
-unfolding sizes_of
-sizes-more [] zero = refl
-sizes-more [] (suc t) = refl
-sizes-more (x ∷ xs) zero = omega arith
-sizes-more (x ∷ xs) (suc t) = rw (sizes-more xs t) (omega arith)
+pub row-record : (i : ℕ) (row : TableStep) → RowListed i row → (r : LiftingStep) → step_of r ≡ listed_step row → StepAt i r
+row-record i row listed r same other = listed.same other ∙ sym same
 
 -- taps that are within a bound
-pub sizes-most : (l : List ℤ) (t m : ℕ) → ((k : ℕ) → k < t → nat_abs (get_or l k (pos 0)) ≤ m) → sizes_of (take t l) ≤ t * m
-unfolding sizes_of
-sizes-most l zero m each = omega arith
-sizes-most [] (suc t) m each = omega arith
-sizes-most (x ∷ xs) (suc t) m each = rw suc-mul (omega (arith, each 0 (omega arith), sizes-most xs t m (λ k h. each (suc k) (omega arith))))
+pub sizes-most : (f : ℕ → ℤ) (n m : ℕ) → ((t : ℕ) → t < n → nat_abs (f t) ≤ m) → sizes_below f n ≤ n * m
+unfolding sizes_below
+sizes-most f zero m each = omega arith
+sizes-most f (suc n) m each = rw suc-mul (omega (arith, each n (omega arith), sizes-most f n m (λ t h. each t (omega arith))))
+
+-- an element of a list that has one
+first-of : {A : Type 0} (l : List A) → 1 ≤ length l → A
+first-of [] some = absurd (omega arith)
+first-of (x ∷ xs) some = x
 
 -- the steps in use of a filter: so many, and each its own
-module _ (f : LiftingFilter) (there : f.count ≤ length f.steps) where
-  steps-counted : length (filter_from f).steps ≡ f.count
-  steps-counted = rw (length-map, length-take f.count f.steps) (omega arith)
+steps-counted : (count : ℕ) (steps : List LiftingStep) → count ≤ length steps → length (steps_in_use count steps) ≡ count
+steps-counted count steps there = rw (length-map, length-take count steps) (omega arith)
+
+module _ (f : LiftingFilter) where
+  filter-counted : length (filter_from f).steps ≡ f.count
+  filter-counted = steps-counted f.count f.steps f.there
 
   step-in-use : (k : ℕ) (other : LiftingStep) → k < f.count →
       get_or (filter_from f).steps k (step_of (get_or f.steps k other)) ≡ step_of (get_or f.steps k other)
   step-in-use k other below =
-      any-default (map step_of (take f.count f.steps)) k (step_of (get_or f.steps k other)) (step_of other) (omega (arith, steps-counted))
+      any-default (map step_of (take f.count f.steps)) k (step_of (get_or f.steps k other)) (step_of other) (omega (arith, filter-counted))
       ∙ get_or-map step_of (take f.count f.steps) k other
       ∙ ap step_of (get_or-take f.count f.steps k other below)
 
   -- as passes
   module _ (pass : Step → Pass) where
     pub passes-counted : length (map pass (filter_from f).steps) ≡ f.count
-    passes-counted = length-map (filter_from f).steps pass ∙ steps-counted
+    passes-counted = length-map (filter_from f).steps pass ∙ filter-counted
 
     pub pass-inside : (k : ℕ) → k < f.count → k < length (map pass (filter_from f).steps)
     pass-inside k below = rw passes-counted below
@@ -271,42 +269,35 @@ all_changed wavelet x known =
     (all-at (λ w. all_below 2 (changed_by_some (filter_of w).steps)) 7 wavelet refl (omega arith))
     (omega arith)
 
--- records of the steps that the table lists for a wavelet index, in a record
+-- records of the steps that the table lists for a wavelet index
 module _ (wavelet : ℕ) (known : wavelet ≤ 6) (row : TableFilter) (listed : FilterListed wavelet row)
-    (f : LiftingFilter) (count : f.count ≡ row.1) (shift : f.shift ≡ row.2) (steps : StepsFrom row.0 row.1 f.steps) (four : length f.steps ≡ 4) where
-  there : f.count ≤ length f.steps
+    (records : List LiftingStep) (steps : StepsFrom row.0 row.1 records) (four : length records ≡ 4) where
+  there : row.1 ≤ length records
   there = omega (arith, listed.few)
 
   taken : length (take row.1 (drop row.0 table_steps)) ≡ row.1
   taken = simp (length-take, length-drop) (omega (arith, listed.inside, table-length))
 
-  same-steps : (filter_from f).steps ≡ take row.1 (drop row.0 table_steps)
+  same-steps : steps_in_use row.1 records ≡ take row.1 (drop row.0 table_steps)
   same-steps =
-      ext_get_or (step_of sample) (filter_from f).steps (take row.1 (drop row.0 table_steps))
-      (steps-counted f there ∙ count ∙ sym taken)
+      ext_get_or (step_of sample) (steps_in_use row.1 records) (take row.1 (drop row.0 table_steps))
+      (steps-counted row.1 records there ∙ sym taken)
       (λ k inside.
-      let below : k < f.count = omega (arith, steps-counted f there) in
-      let here : k < row.1 = omega arith in
-      get_or-map step_of (take f.count f.steps) k sample
-      ∙ ap step_of (get_or-take f.count f.steps k sample below)
-      ∙ sym ((steps k sample here).0 (step_of sample))
+      let here : k < row.1 = omega (arith, steps-counted row.1 records there) in
+      get_or-map step_of (take row.1 records) k sample
+      ∙ ap step_of (get_or-take row.1 records k sample here)
+      ∙ sym (steps k sample here (step_of sample))
       ∙ sym (get_or-take row.1 (drop row.0 table_steps) k (step_of sample) here ∙ get_or-drop row.0 table_steps k (step_of sample)))
     where
       sample : LiftingStep
-      sample = record { even = false; adds = false; lead = 0; taps = []; count = 0; scale = 0; gain = 0 }
+      sample = first-of records (omega (arith, four))
 
-  pub same-filter : filter_from f ≡ filter_of wavelet
+  pub same-filter : record { steps = steps_in_use row.1 records; shift = row.2 } ≡ filter_of wavelet
   unfolding listed_filter
-  same-filter = rw (same-steps, shift) listed.same
+  same-filter = rw same-steps listed.same
 
-  pub well_formed : WellFormed f
-  well_formed =
-      record {
-        few = omega (arith, listed.few);
-        there = there;
-        each = λ k other below. (steps k other (omega arith)).1;
-        all_changed = λ x. rw (ap (λ g. g.steps) same-filter) (all_changed wavelet x known);
-      }
+  pub filter-changes : (x : ℕ) → changed_by_some (steps_in_use row.1 records) x ≡ true
+  filter-changes x = rw (ap (λ g. g.steps) same-filter) (all_changed wavelet x known)
 
 -- the type of a step says what it was made from
 pub type-says : (even added : Bool) → (changes_even (type_of even added) ≡ even) × (adds (type_of even added) ≡ added)

@@ -1,6 +1,6 @@
 -- The code's own forms: how large the numbers of a pass may become, step by step. No definition of the format rests on them.
 use Rattle.std.specs.Prelude.{ℕ, ◌+◌, ◌*◌, ◌/◌, ◌^◌, ◌≤◌, Bool, not, cond, ◌&&◌, ltb}
-use Rattle.filters.specs.declared.filter.LiftingStep.{LiftingStep}
+use Rattle.filters.specs.declared.step.LiftingStep.{LiftingStep}
 use Rattle.filters.specs.declared.bounds.Bounds.{Bounds}
 
 -- Bounds that every step can be run with.

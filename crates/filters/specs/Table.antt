@@ -1,12 +1,14 @@
--- The code's own forms: the table of steps, the step that each row of it stands for, and a step and a filter as the passes run them. The filters
--- that they are tied to stand in Filters.antt.
-use Rattle.std.specs.Prelude.{◌≡◌, ℕ, ◌+◌, ◌^◌, ◌≤◌, ◌<◌, Bool, true, false, cond, ◌||◌, List, [], ◌∷◌, ◌++◌, map, ℤ, pos, ◌+ℤ◌, ◌-ℤ◌, nat_abs, length, get_or, take, drop}
+-- The code's own forms: the table of steps, the step that each row of it stands for, and a filter as the passes run it. The filters that they are
+-- tied to stand in Filters.antt.
+use Rattle.std.specs.Prelude.{◌≡◌, ℕ, ◌+◌, ◌^◌, ◌≤◌, ◌<◌, Bool, cond, List, [], ◌∷◌, ◌++◌, ℤ, pos, ◌+ℤ◌, nat_abs, get_or, take, drop}
 use Rattle.std.specs.Int.Signed.{mag}
 use Rattle.lines.specs.Buffers.{Symmetric}
-use Rattle.filters.specs.Lifting.{Step, StepType, type1, type2, type3, type4, changes_even, adds, changes}
+use Rattle.lines.specs.Sums.{sizes_below}
+use Rattle.filters.specs.Lifting.{Step, StepType, type1, type2, type3, type4, changes_even}
 use Rattle.filters.specs.Filters.{Filter, filter_of, deslauriers_dubuc97, le_gall53, deslauriers_dubuc137, haar_steps, fidelity, daubechies97}
+use Rattle.filters.specs.Steps.{step_of, steps_in_use}
 use Rattle.filters.specs.declared.filter.LiftingFilter.{LiftingFilter}
-use Rattle.filters.specs.declared.filter.LiftingStep.{LiftingStep}
+use Rattle.filters.specs.declared.step.LiftingStep.{LiftingStep}
 use Rattle.filters.specs.declared.table.Kind.{Kind}
 use Rattle.filters.specs.declared.table.Kind.TheVariants.{One, Two, Three, Four}
 use Rattle.filters.specs.declared.table.TableFilter.{TableFilter}
@@ -30,23 +32,6 @@ table_steps =
 unfoldable pub listed_filter : TableFilter → Filter
 listed_filter row = record { steps = take row.1 (drop row.0 table_steps); shift = row.2 }
 
--- A step's type, from the elements that it changes and whether it adds.
-unfoldable pub type_of : Bool → Bool → StepType
-type_of true true = type1
-type_of true false = type2
-type_of false true = type3
-type_of false false = type4
-
--- The step that a record stands for. `lead` is the first offset D, counted from −3 where even elements change and from −4 where odd ones do.
-unfoldable pub step_of : LiftingStep → Step
-step_of r =
-    record {
-      type = type_of r.even r.adds;
-      first = pos r.lead -ℤ pos (cond r.even 3 4);
-      taps = take r.count r.taps;
-      scale = r.scale;
-    }
-
 -- The gain of a step: the sum of its taps' sizes.
 unfoldable pub sizes_of : List ℤ → ℕ
 sizes_of [] = 0
@@ -55,59 +40,30 @@ sizes_of (t ∷ ts) = nat_abs t + sizes_of ts
 unfoldable pub gain_of : Step → ℕ
 gain_of s = sizes_of s.taps
 
--- The record of a step that the table lists.
+-- The lead of a step that the table lists.
 unfoldable pub lead_of : Bool → ℤ → ℕ
 lead_of even first = nat_abs (first +ℤ pos (cond even 3 4))
 
-unfoldable pub record_of : TableStep → LiftingStep
-record_of row =
-    record {
-      even = changes_even (listed_type row.0);
-      adds = adds (listed_type row.0);
-      lead = lead_of (changes_even (listed_type row.0)) row.1;
-      taps = row.2;
-      count = row.3;
-      scale = row.4;
-      gain = sizes_of (take row.3 row.2);
-    }
-
--- The sizes that keep a step's sums within 64 bits, and its reads within the line buffer; that its taps are one, or the same from both ends; and
--- that its gain is that of its taps.
-pub record WellFormedStep (r : LiftingStep) : Type 0 where
-  pub few_taps : r.count ≤ 8
-  pub in_buffer : r.lead + r.count ≤ 9
-  pub small_scale : r.scale ≤ 12
-  pub small_taps : (t : ℕ) → t < 8 → nat_abs (get_or r.taps t (pos 0)) ≤ 2 ^ 13
-  pub some_taps : 1 ≤ r.count
-  pub symmetric : Symmetric r.taps r.count
-  pub gain_exact : r.gain ≡ gain_of (step_of r)
-  pub gain_most : r.gain ≤ 2 ^ 14
-  pub real_taps : (t : ℕ) → t < r.count → 1 ≤ nat_abs (get_or r.taps t (pos 0))
+-- The facts that a record of it holds.
+pub record WellFormedRow (row : TableStep) : Type 0 where
+  pub few_taps : row.3 ≤ 8
+  pub in_buffer : lead_of (changes_even (listed_type row.0)) row.1 + row.3 ≤ 9
+  pub small_scale : row.4 ≤ 12
+  pub small_taps : (t : ℕ) → t < 8 → nat_abs (get_or row.2 t (pos 0)) ≤ 2 ^ 13
+  pub some_taps : 1 ≤ row.3
+  pub symmetric : Symmetric row.2 row.3
+  pub gain_most : sizes_below (λ t. get_or row.2 t (pos 0)) row.3 ≤ 2 ^ 14
+  pub real_taps : (t : ℕ) → t < row.3 → 1 ≤ nat_abs (get_or row.2 t (pos 0))
 
 -- The filter that a record stands for: the steps in use, and the shift.
-abbrev pub steps_in_use : ℕ → List LiftingStep → List Step
-steps_in_use count steps = map step_of (take count steps)
-
 abbrev pub filter_from : LiftingFilter → Filter
 filter_from f = record { steps = steps_in_use f.count f.steps; shift = f.shift }
-
--- Whether some of the steps changes an element.
-unfoldable pub changed_by_some : List Step → ℕ → Bool
-changed_by_some [] x = false
-changed_by_some (s ∷ ss) x = changes s.type x || changed_by_some ss x
-
--- There are so many steps, four at most, each well-formed, and every element of a line is changed by one.
-pub record WellFormed (f : LiftingFilter) : Type 0 where
-  pub few : f.count ≤ 4
-  pub there : f.count ≤ length f.steps
-  pub each : (k : ℕ) (other : LiftingStep) → k < f.count → WellFormedStep (get_or f.steps k other)
-  pub all_changed : (x : ℕ) → changed_by_some (filter_from f).steps x ≡ true
 
 -- A row of the table lists document 01's step i, and a record can be made of it.
 pub record RowListed (i : ℕ) (row : TableStep) : Type 0 where
   pub same : (other : Step) → get_or table_steps i other ≡ listed_step row
   pub small_first : mag row.1 ≤ 2
-  pub well_formed : WellFormedStep (record_of row)
+  pub well_formed : WellFormedRow row
 
 -- A filter of the table is that of a wavelet index, and its steps are steps of the table, four at most.
 pub record FilterListed (wavelet : ℕ) (row : TableFilter) : Type 0 where
@@ -125,7 +81,7 @@ pub record FiltersListed (table : List TableFilter) : Type 0 where
 
 -- A record stands for step i of the table; and so do so many records for steps from one on, whatever is read past the end of their array.
 abbrev pub StepAt : ℕ → LiftingStep → Type 0
-StepAt i r = ((other : Step) → get_or table_steps i other ≡ step_of r) × WellFormedStep r
+StepAt i r = (other : Step) → get_or table_steps i other ≡ step_of r
 
 abbrev pub StepsFrom : ℕ → ℕ → List LiftingStep → Type 0
 StepsFrom start count steps = (k : ℕ) (other : LiftingStep) → k < count → StepAt (start + k) (get_or steps k other)

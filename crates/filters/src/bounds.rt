@@ -1,9 +1,8 @@
 // How large the numbers of a pass may be, step by step: where they stay within 32 bits, a step is run without tests.
 ghost use Rattle.std.specs.Prelude.{◌≡◌, ◌≤◌, ◌^◌, ltb};
-ghost use Rattle.filters.specs.Table.{WellFormedStep};
 ghost use Rattle.filters.specs.Bounds.{BoundsFit, stays_small, target_after, source_bound, target_bound, bounds_after};
 
-use crate::filter::LiftingStep;
+use crate::step::LiftingStep;
 
 // How large the numbers at the even and at the odd elements of a pass may be.
 #[derive(Clone, Copy)]
@@ -14,7 +13,7 @@ pub struct Bounds {
 
 // Whether a step over numbers that keep to bounds stays within 32 bits, its sums and its new numbers.
 pub fn stays_small(step: LiftingStep, bounds: Bounds) -> bool
-    requires { WellFormedStep step × BoundsFit bounds }
+    requires { BoundsFit bounds }
     ensures { result ≡ stays_small step (source_bound step bounds) (target_bound step bounds) }
 {
     if step.even {
@@ -36,7 +35,7 @@ pub fn reads_narrow(step: LiftingStep, bounds: Bounds) -> bool
 
 // The bounds after a step.
 pub fn bounds_after(step: LiftingStep, bounds: Bounds) -> Bounds
-    requires { WellFormedStep step × BoundsFit bounds }
+    requires { BoundsFit bounds }
     ensures { result ≡ bounds_after step bounds }
 {
     if step.even {
@@ -55,7 +54,7 @@ pub fn bounds_after(step: LiftingStep, bounds: Bounds) -> Bounds
 // where they, or its sums, may leave 32 bits, since the new numbers are tested then.
 #[tactic(auto, unfolding(crate::specs::Bounds::target_after, crate::specs::Bounds::stays_small, crate::specs::Bounds::sum_most, crate::specs::Bounds::new_most))]
 fn target_after(step: LiftingStep, source: u64, target: u64) -> u64
-    requires { WellFormedStep step × (source ≤ 2 ^ 32) × (target ≤ 2 ^ 32) }
+    requires { (source ≤ 2 ^ 32) × (target ≤ 2 ^ 32) }
     ensures { result ≡ target_after step source target }
 {
     let sum = step.gain * source + 2048;

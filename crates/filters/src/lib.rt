@@ -3,4 +3,5 @@
 
 pub mod bounds;
 pub mod filter;
+pub mod step;
 pub mod table;

@@ -1,11 +1,14 @@
 // Document 01, "Lifting": the table of seven filters.
-ghost use Rattle.std.specs.Prelude.{◌≡◌, ℕ, ◌+◌, ◌^◌, ◌≤◌, ◌<◌, pos, nat_abs, length, get_or, take};
+ghost use Rattle.std.specs.Prelude.{◌≡◌, ℕ, ◌+◌, ◌^◌, ◌≤◌, ◌<◌, pos, nat_abs, length, get_or};
 ghost use Rattle.std.specs.Int.Signed.{mag};
+ghost use Rattle.lines.specs.Sums.{sizes_below};
 ghost use Rattle.filters.specs.Lifting.{changes_even, adds};
 ghost use Rattle.filters.specs.Filters.{filter_of};
-ghost use Rattle.filters.specs.Table.{listed_type, StepsListed, FiltersListed, lead_of, sizes_of, record_of, StepsFrom, WellFormedStep, WellFormed, filter_from};
+ghost use Rattle.filters.specs.Steps.{step_of};
+ghost use Rattle.filters.specs.Table.{listed_type, listed_step, StepsListed, FiltersListed, lead_of, StepsFrom, WellFormedRow, filter_from};
 
-use crate::filter::{LiftingFilter, LiftingStep};
+use crate::filter::LiftingFilter;
+use crate::step::LiftingStep;
 
 // The four types of step.
 #[derive(Clone, Copy)]
@@ -81,7 +84,7 @@ const FILTERS: [TableFilter; 7] = [
 // The filter of a wavelet index.
 pub fn filter_of(wavelet: usize) -> LiftingFilter
     requires { wavelet ≤ 6 }
-    ensures { (filter_from result ≡ filter_of wavelet) × WellFormed result }
+    ensures { filter_from result ≡ filter_of wavelet }
 {
     let table = table_filters();
     let TableFilter(start, count, shift) = table[wavelet];
@@ -124,8 +127,8 @@ fn table_filters() -> [TableFilter; 7]
 
 // The record of a step that the table lists.
 fn record_of(row: TableStep) -> LiftingStep
-    requires { (mag row.1 ≤ 2) × WellFormedStep (record_of row) }
-    ensures { result ≡ record_of row }
+    requires { (mag row.1 ≤ 2) × WellFormedRow row }
+    ensures { step_of result ≡ listed_step row }
 {
     let TableStep(kind, first, taps, count, scale) = row;
     let even = kind.changes_even();
@@ -153,7 +156,7 @@ fn lead_of(even: bool, first: i64) -> usize
 // The sum of the taps' sizes.
 fn gain_of(taps: &[i64; 8], count: usize) -> u64
     requires { (count ≤ 8) × ((t : ℕ) → t < 8 → nat_abs (get_or taps.now t (pos 0)) ≤ 2 ^ 13) }
-    ensures { result ≡ sizes_of (take count taps.now) }
+    ensures { result ≡ sizes_below (λ t. get_or taps.now t (pos 0)) count }
 {
     let mut gain = 0u64;
     for t in 0..count {

@@ -21,9 +21,9 @@ use Rattle.filters.specs.Pictures.{target_row, source_row}
 use Rattle.lifting.specs.Layout.{base_of}
 use Rattle.filters.specs.Bounds.{bound_of, source_bound, target_bound, bounds_after}
 use Rattle.lifting.specs.LineBounds.{HalvesWithin}
-use Rattle.filters.specs.Table.{type_of, step_of, WellFormedStep}
+use Rattle.filters.specs.Steps.{type_of, step_of}
 use Rattle.lifting.specs.Lines.{line_new, LineLifted}
-use Rattle.filters.specs.declared.filter.LiftingStep.{LiftingStep}
+use Rattle.filters.specs.declared.step.LiftingStep.{LiftingStep}
 use Rattle.filters.specs.declared.bounds.Bounds.{Bounds}
 use Rattle.filters.proofs.LiftingLaws.{lift-keeps}
 use Rattle.lines.proofs.SumsLaws.{sum_same}
@@ -99,7 +99,6 @@ HalfLifted r b bounds target source halves answer halves' =
 -- What is known before the sums of a step are made: the half that is read has its ends repeated and the other stands elsewhere, the taps
 -- start at the lead, and both halves are within their bounds.
 pub record HalfRead (r : LiftingStep) (b : ℕ) (bounds : Bounds) (target source : ℕ) (halves extended : List ℤ) (starts : List ℕ) : Type 0 where
-  pub formed : WellFormedStep r
   pub some : 1 ≤ b
   pub apart : (i j : ℕ) → i < b + 8 → j < b + 8 → target + i ≢ source + j
   pub ends : (s : ℕ) → s < b + 8 → get_or extended (source + s) (pos 0) ≡ get_or halves (source + clamped_entry b s) (pos 0)
@@ -127,7 +126,7 @@ module _
     entry_read : (k t : ℕ) → k < b → t < r.count → get_or extended (get_or starts t 0 + k) (pos 0) ≡ read_entry r b source halves k t
     entry_read k t inside h =
         let order : source + r.lead + t + k ≡ source + (r.lead + t + k) = omega arith in
-        rw (read.placed t (omega (arith, read.formed.few_taps)), order) (read.ends (r.lead + t + k) (omega (arith, read.formed.in_buffer)))
+        rw (read.placed t (omega (arith, r.few_taps)), order) (read.ends (r.lead + t + k) (omega (arith, r.in_buffer)))
 
     tap-same : (k t : ℕ) → k < b → t < r.count → tap_at r.taps starts extended k t ≡ get_or r.taps t (pos 0) *ℤ read_entry r b source halves k t
     unfolding tap_at
@@ -174,7 +173,7 @@ module _
         half-within : answer ≡ true → Within halves' (target + 4) b (target_bound r (bounds_after r bounds))
         half-within fits k inside =
             rw (half-done fits k inside, target-bound-after r bounds)
-            (after-size r read.formed (source_bound r bounds) (read_entry r b source halves k) (λ t h. read-within k t) (get_or halves (target + 4 + k) (pos 0)) (target_bound r bounds)
+            (after-size r (source_bound r bounds) (read_entry r b source halves k) (λ t h. read-within k t) (get_or halves (target + 4 + k) (pos 0)) (target_bound r bounds)
             (read.targets k inside)
             (all-at (λ k. fits32 (new_entry r b target source halves k)) b k (sym half-told ∙ fits) inside))
 

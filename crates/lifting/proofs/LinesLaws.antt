@@ -16,9 +16,9 @@ use Rattle.lines.specs.Sums.{tap_at}
 use Rattle.filters.specs.Lifting.{lift}
 use Rattle.filters.specs.Pictures.{target_row, source_row}
 use Rattle.filters.specs.Planes.{picture_of}
-use Rattle.filters.specs.Table.{step_of}
+use Rattle.filters.specs.Steps.{step_of}
 use Rattle.lifting.specs.Lines.{line_new, LineInside, LineLifted}
-use Rattle.filters.specs.declared.filter.LiftingStep.{LiftingStep}
+use Rattle.filters.specs.declared.step.LiftingStep.{LiftingStep}
 use Rattle.lines.proofs.SumsLaws.{sum_same}
 use Rattle.filters.proofs.PicturesLaws.{lift-at-target}
 
@@ -71,7 +71,6 @@ module _
     pub part-inside : LineInside r moved work (start + before) part
     part-inside =
         record {
-          formed = line.formed;
           width_most = omega (arith, line.width_most);
           inside = rw long (omega (arith, line.inside));
           sources_inside = λ t h. rw (on t h, long) (omega (arith, line.sources_inside t h));

@@ -4,7 +4,7 @@ use Rattle.std.specs.Prelude.{ℕ, ◌+◌, ◌*◌, ◌^◌, ◌≤◌, ◌<◌
 use Rattle.lines.specs.Buffers.{Within}
 use Rattle.filters.specs.Pictures.{source_row}
 use Rattle.filters.specs.Bounds.{source_bound, target_bound}
-use Rattle.filters.specs.declared.filter.LiftingStep.{LiftingStep}
+use Rattle.filters.specs.declared.step.LiftingStep.{LiftingStep}
 use Rattle.filters.specs.declared.bounds.Bounds.{Bounds}
 use Rattle.lifting.specs.Lines.{row_start}
 use Rattle.lifting.specs.declared.frame.Frame.{Frame}

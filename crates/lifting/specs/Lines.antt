@@ -7,10 +7,10 @@ use Rattle.lines.specs.Buffers.{Within}
 use Rattle.lines.specs.Sums.{sum_below, tap_at, changed}
 use Rattle.filters.specs.Lifting.{Line, rounding, lift}
 use Rattle.filters.specs.Pictures.{target_row}
-use Rattle.filters.specs.Table.{step_of, WellFormedStep}
+use Rattle.filters.specs.Steps.{step_of}
 use Rattle.filters.specs.Bounds.{source_bound, target_bound}
 use Rattle.filters.specs.declared.bounds.Bounds.{Bounds}
-use Rattle.filters.specs.declared.filter.LiftingStep.{LiftingStep}
+use Rattle.filters.specs.declared.step.LiftingStep.{LiftingStep}
 use Rattle.lifting.specs.Layout.{frame_picture}
 use Rattle.lifting.specs.declared.frame.Frame.{Frame}
 
@@ -21,7 +21,6 @@ line_new r starts plane start x =
 
 -- A line that a step can be run on: it and those that its taps read are inside the plane, and it is apart from them.
 pub record LineInside (r : LiftingStep) (starts : List ℕ) (plane : List ℤ) (start width : ℕ) : Type 0 where
-  pub formed : WellFormedStep r
   pub width_most : width ≤ 4096
   pub inside : start + width ≤ length plane
   pub sources_inside : (t : ℕ) → t < r.count → get_or starts t 0 + width ≤ length plane

@@ -2,7 +2,6 @@
 ghost use Rattle.std.specs.Prelude.{◌≡◌, true, ℕ, ◌+◌, ◌*◌, ◌^◌, ◌≤◌, ◌<◌, get_or, is_ok};
 ghost use Rattle.base.specs.Fill.{fill};
 ghost use Rattle.filters.specs.Bounds.{BoundsFit};
-ghost use Rattle.filters.specs.Table.{WellFormedStep};
 ghost use Rattle.lifting.specs.Layout.{FrameFits};
 ghost use Rattle.filters.specs.Pictures.{target_row, source_row};
 ghost use Rattle.lifting.specs.LineBounds.{StepRowsWithin};
@@ -12,7 +11,7 @@ use crate::frame::Frame;
 use crate::steps::lift;
 use base::status::OutOfRange;
 use filters::bounds::Bounds;
-use filters::filter::LiftingStep;
+use filters::step::LiftingStep;
 use std::array;
 
 // Runs one step on one element of every column: the row of pair k that the step changes, in 32 bits where the sizes of the numbers allow it. Refuses
@@ -24,7 +23,7 @@ pub fn lift_row(
     step: LiftingStep,
     bounds: Bounds,
 ) -> Result<(), OutOfRange>
-    requires frame_fits { FrameFits frame work.old × WellFormedStep step × (k < frame.band_rows) × BoundsFit bounds }
+    requires frame_fits { FrameFits frame work.old × (k < frame.band_rows) × BoundsFit bounds }
     requires step_rows_within { StepRowsWithin frame step k bounds work.old }
     ensures told { is_ok result ≡ new_row_fits frame step work.old k }
     ensures done { is_ok result ≡ true → work.new

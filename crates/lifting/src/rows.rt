@@ -5,7 +5,8 @@ ghost use Rattle.base.specs.Fill.{fill};
 ghost use Rattle.lines.specs.Buffers.{interleaved};
 ghost use Rattle.filters.specs.Lifting.{lift};
 ghost use Rattle.filters.specs.Passes.{rows, run, new_fit};
-ghost use Rattle.filters.specs.Table.{step_of, WellFormedStep, filter_from, WellFormed};
+ghost use Rattle.filters.specs.Steps.{step_of};
+ghost use Rattle.filters.specs.Table.{filter_from};
 ghost use Rattle.lifting.specs.Layout.{half_line, base_of, HalvesInside, row_after, row_numbers_fit, halves_made, halves_fit};
 ghost use Rattle.filters.specs.Bounds.{bounds_after};
 ghost use Rattle.lifting.specs.LineBounds.{HalvesWithin};
@@ -14,7 +15,8 @@ use crate::steps::lift;
 use base::plane::zero_part;
 use base::status::OutOfRange;
 use filters::bounds::{Bounds, bounds_after};
-use filters::filter::{LiftingFilter, LiftingStep};
+use filters::filter::LiftingFilter;
+use filters::step::LiftingStep;
 use lines::buffers::{extend, interleave};
 use lines::measures::copy_measured;
 use std::array;
@@ -37,7 +39,7 @@ pub fn finish_row(
     kept: KeptRow,
     filter: LiftingFilter,
 ) -> Result<(), OutOfRange>
-    requires well_formed { WellFormed filter × HalvesInside half kept.start work.old }
+    requires halves_inside { HalvesInside half kept.start work.old }
     requires count_bound { (kept.count ≤ 2 * half) × (kept.to + kept.count ≤ length samples.old) }
     ensures told { is_ok result ≡ halves_fit filter half kept.start work.old }
     ensures done { is_ok result ≡ true → samples.new
@@ -66,7 +68,7 @@ pub fn filter_row(
     half: usize,
     filter: LiftingFilter,
 ) -> Result<(), OutOfRange>
-    requires { WellFormed filter × HalvesInside half start work.old }
+    requires { HalvesInside half start work.old }
     ensures told { is_ok result ≡ halves_fit filter half start work.old }
     ensures done { is_ok result ≡ true → work.new ≡ fill work.old start (2 * half) (halves_made filter half start work.old) }
 {
@@ -83,7 +85,7 @@ fn filter_row_halves(
     half: usize,
     filter: LiftingFilter,
 ) -> Result<(), OutOfRange>
-    requires { WellFormed filter × HalvesInside half start work.now }
+    requires { HalvesInside half start work.now }
     ensures told { is_ok result ≡ halves_fit filter half start work.now }
     ensures done { is_ok result ≡ true → (x : ℕ) → x < 2 * half → interleaved halves.new x
         ≡ row_after half (filter_from filter) (half_line half start work.now) x }
@@ -104,7 +106,7 @@ fn filter_halves(
     filter: LiftingFilter,
     first: Bounds,
 ) -> Result<(), OutOfRange>
-    requires le_half { (1 ≤ half) × (half ≤ 2048) × WellFormed filter }
+    requires le_half { (1 ≤ half) × (half ≤ 2048) }
     requires halves_within { HalvesWithin half first halves.old }
     ensures told { is_ok result ≡ row_numbers_fit half (filter_from filter) (interleaved halves.old) }
     ensures done { is_ok result ≡ true → (x : ℕ) → x < 2 * half → interleaved halves.new x
@@ -125,7 +127,7 @@ fn lift_halves(
     step: LiftingStep,
     bounds: Bounds,
 ) -> Result<(), OutOfRange>
-    requires le_half { (1 ≤ half) × (half ≤ 2048) × WellFormedStep step }
+    requires le_half { (1 ≤ half) × (half ≤ 2048) }
     requires halves_within { HalvesWithin half bounds halves.old }
     ensures told { is_ok result
         ≡ new_fit 1 (2 * half) (rows (step_of step)) (run 1 (2 * half) (rows (step_of step)) (λ row. interleaved halves.old)) }

@@ -5,7 +5,7 @@ ghost use Rattle.lifting.specs.Lines.{LineInside, LineWithin, LineLifted};
 
 use base::status::OutOfRange;
 use filters::bounds::{Bounds, reads_narrow, stays_small};
-use filters::filter::{LiftingStep, rounding_of};
+use filters::step::{LiftingStep, rounding_of};
 use lifting32::{LineStep, lift_small};
 use lines::sums::{lift_line, sum_taps};
 use std::array;

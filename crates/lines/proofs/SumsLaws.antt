@@ -1,7 +1,6 @@
 -- Laws of sums of taps: one tap more, and sizes that stay within 64 bits.
 -- Assumes nothing.
 use mathlib.Core.Path.{◌≡◌, refl, sym, ap, ◌∙◌}
-use mathlib.Core.Bool.{true, false}
 use mathlib.Core.List.{List, [], ◌∷◌}
 use Prim.Native.Nat.{ℕ, zero, suc, ◌+◌, ◌-◌, ◌*◌, ◌^◌, ◌≤◌, ◌<◌}
 use native.Mathlib.Numerals.{add-one}
@@ -11,14 +10,8 @@ use native.Mathlib.Omega.{arith}
 use lib.IntN.{ℤ, pos, nat_abs, ◌+ℤ◌, ◌*ℤ◌, negsuc, +ℤ_idl, +ℤ_idr, +ℤ_assoc, +ℤ_comm, zero-*ℤ, suc_ℤ-*ℤ, *ℤ_comm, *ℤ-negsuc, neg_ℤ, neg_ℤ-+ℤ}
 use lib.ListN.{length, get_or, get_or-eq_default, take}
 use lib.Signed.{mag}
-use mir.Syntax.{w32}
-use mir.Val.{to_z, of_z}
-use borrow.Author.Tests.{le-ltb}
-use Rattle.std.proofs.Common.{FitsSigned}
 use Rattle.base.specs.Fill.{fill}
-use Rattle.base.specs.Range.{fits32}
 use Rattle.base.proofs.FillLaws.{length-fill, get_d-fill-start}
-use Rattle.base.proofs.RangeLaws.{back, below-fits32}
 use Rattle.base.proofs.Integers.{mag-size, size-mag, size-add, size-mul, size-mul-most}
 use Rattle.lines.specs.Buffers.{Below}
 use Rattle.lines.specs.Sums.{sum_below, sizes_below}
@@ -91,10 +84,6 @@ tap-size tap a some =
 
 pub pair_size : (tap a b : ℤ) → nat_abs (tap *ℤ (a +ℤ b)) ≤ nat_abs (tap *ℤ a) + nat_abs (tap *ℤ b)
 pair_size tap a b = rw (distributes tap a b) (size-add (tap *ℤ a) (tap *ℤ b))
-
--- a number below 2^31 in size fits 32 bits
-pub size-fits32 : (z : ℤ) → nat_abs z < 2 ^ 31 → fits32 z ≡ true
-size-fits32 z h = below-fits32 z (omega (arith, mag-size z))
 
 -- sums of the same numbers
 pub sum_same : (f g : ℕ → ℤ) (n : ℕ) → ((i : ℕ) → i < n → f i ≡ g i) → sum_below f n ≡ sum_below g n
@@ -226,17 +215,3 @@ sum-taken (suc n) [] g = sym (sum_zeros (λ t. pos 0 *ℤ g t) (suc n) (λ t. ze
 sum-taken (suc n) (x ∷ xs) g =
     sum-front (λ t. get_or (x ∷ take n xs) t (pos 0) *ℤ g t) (length (take n xs))
     ∙ rw (sum-taken n xs (λ t. g (suc t))) (sym (sum-front (λ t. get_or (x ∷ xs) t (pos 0) *ℤ g t) n))
-
--- a number as a conversion to signed 32 bits tests it, and what it is converted to
-pub fits32-out : (z : ℤ) → (FitsSigned w32 z → ⊥) → fits32 z ≡ false
-unfolding fits32
-fits32-out z outside =
-    elim (dec_lt (mag z) (2 ^ 31)) [
-      | yes small ↦ absurd (outside (record { sfits = small }))
-      | no large ↦ le-ltb (mag z) (2 ^ 31) (omega arith)
-    ]
-
-pub converted : (new wanted fitting : ℤ) → new ≡ wanted → FitsSigned w32 new × (fitting ≡ new) → (to_z w32 (of_z w32 fitting) ≡ wanted) × (fits32 wanted ≡ true)
-converted new wanted fitting same (fits, kept) =
-    let small : FitsSigned w32 wanted = rw same at fits in
-    (rw (kept, same) (back w32 wanted small.sfits), below-fits32 wanted small.sfits)

@@ -4,6 +4,7 @@ ghost use Rattle.base.specs.Fill.{fill};
 ghost use Rattle.lines.specs.Sums.{number_at, sum_at, changed, line_lifted, line_fits, TapsFit};
 ghost use Rattle.lines.specs.Buffers.{Below};
 
+use base::signed;
 use base::status::OutOfRange;
 
 // Sums the taps of a line, each from its own start in the source on.
@@ -58,10 +59,7 @@ pub fn lift_line(
 {
     for x in 0..width {
         let new = lifted(line[start + x], sums[x], scale, adds);
-        let Ok(fitting) = i32::try_from(new) else {
-            return Err(OutOfRange);
-        };
-        line[start + x] = fitting;
+        line[start + x] = signed::try_narrow(new)?;
     }
     Ok(())
 }

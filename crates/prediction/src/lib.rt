@@ -41,7 +41,7 @@ fn predict_value(plane: &mut [i32], stride: usize, y: usize, x: usize) -> Result
 {
     let index = y * stride + x;
     let v = i64::from(plane[index]) + predictor_at(plane, stride, y, x);
-    plane[index] = i32::try_from(v)?;
+    plane[index] = signed::try_narrow(v)?;
     Ok(())
 }
 

@@ -7,7 +7,7 @@ use Prim.Native.Nat.{ℕ, zero, suc}
 use native.Mathlib.Decide.{ℕ_discrete}
 use native.Mathlib.Omega.{arith}
 use borrow.Author.Tests.{eq-eqb, ne_eqb}
-use Rattle.std.specs.Prelude.{Option, Some, None}
+use Rattle.std.specs.Prelude.{Option}
 use Rattle.std.specs.Option.{unwrap_or}
 use Rattle.contents.specs.Counts.{nonzero}
 use Rattle.contents.specs.Table.{entry_count}
@@ -30,17 +30,6 @@ pub parts_of : (entries : Option ℕ) (n : ℕ) → entries ≡ nonzero n → un
 unfolding nonzero
 parts_of entries zero is = rw is (one-part 0 refl)
 parts_of entries (suc n) is = rw is (entry-parts (suc n) (λ none. absurd (omega arith)))
-
--- and there are none, or some, as the option says
-pub entries-none : (n : ℕ) → None ≡ nonzero n → n ≡ 0
-unfolding nonzero
-entries-none zero is = refl
-entries-none (suc n) is = absurd (cc)
-
-pub entries-some : (n m : ℕ) → Some m ≡ nonzero n → n ≢ 0
-unfolding nonzero
-entries-some zero m is none = absurd (cc)
-entries-some (suc n) m is none = absurd (omega arith)
 
 module _ (file : List ℕ) (k : ℕ) where
   pub part-wrong : entry_count file ≡ 0 → ascii "refused 11\n" ≡ part file k

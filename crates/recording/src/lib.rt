@@ -7,13 +7,14 @@ mod results;
 ghost use Rattle.std.specs.Prelude.{◌≡◌, ◌++◌, ◌<◌, ℕ, length};
 ghost use Rattle.contents.specs.Counts.{nonzero};
 ghost use Rattle.contents.specs.Table.{entry_count};
+ghost use Rattle.component.specs.Answers.{answer_of};
 ghost use Rattle.recording.specs.Output.{plane_length, sample_length, entry_status, body_lines, entry_text};
 ghost use Rattle.recording.specs.Parts.{part_count, part};
 
 use crate::planes::{plane_length, sample_length};
 use crate::results::put_entry;
-use base::status::{ACCEPTED, BYTES_LEFT_OVER};
-use component::parameters::{Answer, Parameters};
+use base::status::Refusal;
+use component::parameters::{Parameters, Refused};
 use contents::table::{FILE_MOST, entry_at};
 use decode::decode;
 use text::TextBuffer;
@@ -28,6 +29,7 @@ pub const AREA_MOST: usize = 16384;
 pub const TEXT_ROOM: usize = 204800;
 
 // How many parts the output of a file with so many entries has: one for each entry, or one that says that the table is wrong.
+#[tactic(auto, using(crate::proofs::PartsLaws::parts_of))]
 pub fn part_count(entries: Option<usize>) -> usize
     ensures { (n : ℕ) → entries ≡ nonzero n → result ≡ part_count n }
 {
@@ -36,6 +38,7 @@ pub fn part_count(entries: Option<usize>) -> usize
 
 // Puts part k of what a file with so many entries decodes to into the text, in place of what stood there. The planes may hold anything
 // before and after.
+#[tactic(auto, unfolding(crate::specs::Parts::part, crate::specs::Parts::part_count, contents::specs::Counts::nonzero, text::specs::Text::ascii))]
 pub fn output_part(
     file: &[u8],
     entries: Option<usize>,
@@ -56,6 +59,7 @@ pub fn output_part(
 }
 
 // Puts the lines of entry k of a recording whose table is right.
+#[tactic(auto, using(crate::proofs::OutputLaws::plane_most, crate::proofs::OutputLaws::sample_most))]
 fn entry_text(
     file: &[u8],
     k: usize,
@@ -101,24 +105,23 @@ fn decoded_text(
     requires no_text { length text.old ≡ 0 }
     ensures { text.new ≡ text.old ++ body_lines k p body.now }
 {
-    let answer = decode(p, body, coefficients, work, samples);
-    put_entry(text, k, p, entry_answer(answer, body.len()), samples);
+    let decoded = decode(p, body, coefficients, work, samples);
+    put_entry(text, k, p, entry_result(decoded, body.len()), samples);
 }
 
-// Document 02, "Left-over bytes are a fault": the answer for an entry whose body has so many bytes, from what decode answered. It is 12 where
-// bytes of an accepted one are left over, and the place is decode's.
-fn entry_answer(answer: Answer, size: usize) -> Answer
-    ensures status { result.status ≡ entry_status answer.status answer.place size }
-    ensures place { result.place ≡ answer.place }
+// Document 02, "Left-over bytes are a fault": what an entry whose body has so many bytes comes to, from what decode answered. It is refused
+// where bytes of an accepted one are left over, and the place is decode's.
+#[tactic(auto, unfolding(crate::specs::Output::entry_status))]
+fn entry_result(decoded: Result<usize, Refused>, size: usize) -> Result<usize, Refused>
+    ensures status { (answer_of result).status ≡ entry_status (answer_of decoded).status (answer_of decoded).place size }
+    ensures place { (answer_of result).place ≡ (answer_of decoded).place }
 {
-    if answer.status != ACCEPTED {
-        return answer;
+    let used = decoded?;
+    if used == size {
+        return Ok(used);
     }
-    if answer.place == size {
-        return answer;
-    }
-    Answer {
-        status: BYTES_LEFT_OVER,
-        place: answer.place,
-    }
+    Err(Refused {
+        refusal: Refusal::BytesLeftOver,
+        place: used,
+    })
 }

@@ -15,7 +15,7 @@ use Rattle.base.proofs.Parity.{all-pairs}
 use Rattle.lifting.specs.Layout.{FrameFits, frame_picture, numbers_fit}
 use Rattle.filters.specs.Passes.{Picture, rows, all_new_fit}
 use Rattle.filters.specs.Planes.{picture_of}
-use Rattle.filters.specs.Table.{WellFormed, filter_from}
+use Rattle.filters.specs.Table.{filter_from}
 use Rattle.lifting.specs.declared.frame.Frame.{Frame}
 use Rattle.filters.specs.declared.filter.LiftingFilter.{LiftingFilter}
 use Rattle.filters.proofs.PassesLaws.{rows-new-all}
@@ -106,7 +106,7 @@ module _
         }
 
 -- The last stage at a turn, over stages that end with what the level leaves.
-module _ (level : Level) (filter : LiftingFilter) (formed : WellFormed filter) (turn : ℕ) (Q S : Picture) (plane : List ℤ) (placed : FrameFits level.frame plane) where
+module _ (level : Level) (filter : LiftingFilter) (turn : ℕ) (Q S : Picture) (plane : List ℤ) (placed : FrameFits level.frame plane) where
   abbrev b : ℕ
   b = level.frame.band_rows
 
@@ -130,7 +130,7 @@ module _ (level : Level) (filter : LiftingFilter) (formed : WellFormed filter) (
 
   -- the picture after all steps
   stage-steps : pictures (suc filter.count) ≡ T
-  stage-steps = stage-after level.frame filter Q S (picture_left level filter S) filter.count (omega arith) ∙ after-all level.frame filter Q S (picture_left level filter S) formed
+  stage-steps = stage-after level.frame filter Q S (picture_left level filter S) filter.count (omega arith) ∙ after-all level.frame filter Q S (picture_left level filter S)
 
   module _ (all : Swept level.frame level.gap (reach_in level.frame filter turn (suc filter.count)) pictures plane) where
     -- the rows of the pairs that it comes to

@@ -13,7 +13,7 @@ use Rattle.base.proofs.Booleans.{and-true, and-false}
 use Rattle.lifting.specs.Layout.{FrameFits, AgreeOn, frame_picture, numbers_fit}
 use Rattle.filters.specs.Passes.{Picture, columns, rows}
 use Rattle.filters.specs.Planes.{picture_of}
-use Rattle.filters.specs.Table.{WellFormed, filter_from}
+use Rattle.filters.specs.Table.{filter_from}
 use Rattle.filters.specs.Pictures.{Agree, target_row}
 use Rattle.lifting.specs.declared.frame.Frame.{Frame}
 use Rattle.filters.specs.declared.filter.LiftingFilter.{LiftingFilter}
@@ -71,110 +71,109 @@ module _ (level : Level) (filter : LiftingFilter) (padded : ℕ) (work₀ coeffi
       came zero k even inside at x within = ap (λ (P : Picture). P (target_row even k) x) (sym (stage-came f filter (frame_picture f work₀) input (picture_left level filter input)))
       came (suc n) k even inside at x within = absurd (none_yet n k at)
 
-  module _ (formed : WellFormed filter) where
-    -- where a turn fails, the level does
-    pub columns-fail : (turn : ℕ) → (TurnFits f filter level.gap turn level_pictures → ⊥) → false ≡ both_fit f filter input
-    columns-fail turn failed = by (numbers_fit f (map columns (filter_from filter).steps) input) refl
-      where
-        by : (fits : Bool) → numbers_fit f (map columns (filter_from filter).steps) input ≡ fits → false ≡ both_fit f filter input
-        by true e =
-            absurd
-            (failed (λ i below k from to. step_fits-told f filter (frame_picture f work₀) input (picture_left level filter input) formed e i k below (omega arith)))
-        by false e = rw e
+  -- where a turn fails, the level does
+  pub columns-fail : (turn : ℕ) → (TurnFits f filter level.gap turn level_pictures → ⊥) → false ≡ both_fit f filter input
+  columns-fail turn failed = by (numbers_fit f (map columns (filter_from filter).steps) input) refl
+    where
+      by : (fits : Bool) → numbers_fit f (map columns (filter_from filter).steps) input ≡ fits → false ≡ both_fit f filter input
+      by true e =
+          absurd
+          (failed (λ i below k from to. step_fits-told f filter (frame_picture f work₀) input (picture_left level filter input) e i k below (omega arith)))
+      by false e = rw e
 
-    pub rows-fail :
-        (turn : ℕ)
-        → (EachPair (came_to f.band_rows (rows_lag level filter) turn) (came_to f.band_rows (rows_lag level filter) (turn + 8)) (pair_test level filter input) → ⊥)
-        → false ≡ both_fit f filter input
-    rows-fail turn failed = by (numbers_fit f (map rows (filter_from filter).steps) (halved_of f (by_columns f filter input))) refl
-      where
-        by : (fits : Bool) → numbers_fit f (map rows (filter_from filter).steps) (halved_of f (by_columns f filter input)) ≡ fits → false ≡ both_fit f filter input
-        by true e = absurd (failed (λ k from to. pair_fits-told level filter input e k (omega arith)))
-        by false e =
-            sym
-            (and-false (numbers_fit f (map columns (filter_from filter).steps) input)
-            (numbers_fit f (map rows (filter_from filter).steps) (halved_of f (by_columns f filter input))) e)
-
-    -- in the end
-    module _ (most turn : ℕ) (work samples : List ℤ) (over : f.band_rows + rows_lag level filter ≤ turn) (all : Progress most turn work samples) where
-      pub level-fits : true ≡ both_fit f filter input
-      level-fits =
+  pub rows-fail :
+      (turn : ℕ)
+      → (EachPair (came_to f.band_rows (rows_lag level filter) turn) (came_to f.band_rows (rows_lag level filter) (turn + 8)) (pair_test level filter input) → ⊥)
+      → false ≡ both_fit f filter input
+  rows-fail turn failed = by (numbers_fit f (map rows (filter_from filter).steps) (halved_of f (by_columns f filter input))) refl
+    where
+      by : (fits : Bool) → numbers_fit f (map rows (filter_from filter).steps) (halved_of f (by_columns f filter input)) ≡ fits → false ≡ both_fit f filter input
+      by true e = absurd (failed (λ k from to. pair_fits-told level filter input e k (omega arith)))
+      by false e =
           sym
-          (and-true _ _
-          (steps-fit f filter (frame_picture f work₀) input (picture_left level filter input) formed
-          (λ i k below inside.
-          let nearer : (i + 1) * level.gap ≤ rows_lag level filter = mul-le-mul_right level.gap (omega arith) in
-          all.columns-fit i below k (omega arith) (omega arith)))
-          (pairs_fit level filter input (λ k from to. all.rows_fit k from (omega arith))))
+          (and-false (numbers_fit f (map columns (filter_from filter).steps) input)
+          (numbers_fit f (map rows (filter_from filter).steps) (halved_of f (by_columns f filter input))) e)
 
-      pub level-left : AgreeOn f (frame_picture f work) (picture_left level filter input)
-      level-left row x below within =
-          by-pairs (λ r. frame_picture f work r x ≡ picture_left level filter input r x) row
-          (λ k even same.
-          swept_all f filter level.gap turn level_pictures work over all.swept k even (pair-below even k row f.band_rows same below) x within
-          ∙ ap (λ (P : Picture). P (target_row even k) x) (stage-left f filter (frame_picture f work₀) input (picture_left level filter input)))
+  -- in the end
+  module _ (most turn : ℕ) (work samples : List ℤ) (over : f.band_rows + rows_lag level filter ≤ turn) (all : Progress most turn work samples) where
+    pub level-fits : true ≡ both_fit f filter input
+    level-fits =
+        sym
+        (and-true _ _
+        (steps-fit f filter (frame_picture f work₀) input (picture_left level filter input)
+        (λ i k below inside.
+        let nearer : (i + 1) * level.gap ≤ rows_lag level filter = mul-le-mul_right level.gap (omega arith) in
+        all.columns-fit i below k (omega arith) (omega arith)))
+        (pairs_fit level filter input (λ k from to. all.rows_fit k from (omega arith))))
 
-      pub level-finished :
-          finishes level ≡ true → (crop_of level).height ≤ 2 * f.band_rows
-          → Agree (crop_of level).height (crop_of level).width (picture_of (crop_of level).width samples) (by_rows f filter (by_columns f filter input))
-      unfolding picture_of
-      level-finished finishes short row x below within =
-          by-pairs (λ r. get_or samples (r * (crop_of level).width + x) (pos 0) ≡ by_rows f filter (by_columns f filter input) r x) row
-          (λ k even same. all.finished finishes k even x (omega (arith, pair-below even k row f.band_rows same (omega arith))) (rw same below) within)
+    pub level-left : AgreeOn f (frame_picture f work) (picture_left level filter input)
+    level-left row x below within =
+        by-pairs (λ r. frame_picture f work r x ≡ picture_left level filter input r x) row
+        (λ k even same.
+        swept_all f filter level.gap turn level_pictures work over all.swept k even (pair-below even k row f.band_rows same below) x within
+        ∙ ap (λ (P : Picture). P (target_row even k) x) (stage-left f filter (frame_picture f work₀) input (picture_left level filter input)))
 
-    -- A turn.
-    module _ (most turn : ℕ) (work samples : List ℤ) (old : Progress most turn work samples) where
-      -- the bands of its pairs are interleaved
-      module _
-          (here most' : ℕ) (larger : (most ≤ most') × (here ≤ most')) (banded : List ℤ)
-          (put : FramePut f (came_to f.band_rows 0 turn) (came_to f.band_rows 0 (turn + 8)) (band_rows f padded work coefficients) work banded)
-        where
-          pub turn-bounded :
-              ((k : ℕ) → came_to f.band_rows 0 turn ≤ k → k < came_to f.band_rows 0 (turn + 8) → PairWithin f k (suc here) banded)
-              → Bounded f level.gap (reach_in f filter turn 1) filter (suc most') banded
-          turn-bounded measured =
-              bounded-bands f filter level.gap turn padded work₀ coefficients work (picture_left level filter input) banded put
-              (suc most) (suc most') here (omega (arith, larger.0)) (omega (arith, larger.1)) measured old.bounded
+    pub level-finished :
+        finishes level ≡ true → (crop_of level).height ≤ 2 * f.band_rows
+        → Agree (crop_of level).height (crop_of level).width (picture_of (crop_of level).width samples) (by_rows f filter (by_columns f filter input))
+    unfolding picture_of
+    level-finished finishes short row x below within =
+        by-pairs (λ r. get_or samples (r * (crop_of level).width + x) (pos 0) ≡ by_rows f filter (by_columns f filter input) r x) row
+        (λ k even same. all.finished finishes k even x (omega (arith, pair-below even k row f.band_rows same (omega arith))) (rw same below) within)
 
-          pub turn-swept : Swept f level.gap (reach_in f filter turn 1) level_pictures banded
-          turn-swept = swept-bands f filter level.gap turn padded work₀ coefficients work (picture_left level filter input) banded put old.swept
+  -- A turn.
+  module _ (most turn : ℕ) (work samples : List ℤ) (old : Progress most turn work samples) where
+    -- the bands of its pairs are interleaved
+    module _
+        (here most' : ℕ) (larger : (most ≤ most') × (here ≤ most')) (banded : List ℤ)
+        (put : FramePut f (came_to f.band_rows 0 turn) (came_to f.band_rows 0 (turn + 8)) (band_rows f padded work coefficients) work banded)
+      where
+        pub turn-bounded :
+            ((k : ℕ) → came_to f.band_rows 0 turn ≤ k → k < came_to f.band_rows 0 (turn + 8) → PairWithin f k (suc here) banded)
+            → Bounded f level.gap (reach_in f filter turn 1) filter (suc most') banded
+        turn-bounded measured =
+            bounded-bands f filter level.gap turn padded work₀ coefficients work (picture_left level filter input) banded put
+            (suc most) (suc most') here (omega (arith, larger.0)) (omega (arith, larger.1)) measured old.bounded
 
-      -- the steps have come to their pairs
-      module _ (most' : ℕ) (lifted : List ℤ) (placed : FrameFits f lifted) (swept : Swept f level.gap (reach_in f filter turn (suc filter.count)) level_pictures lifted) where
-        abbrev from : ℕ
-        from = came_to f.band_rows (rows_lag level filter) turn
+        pub turn-swept : Swept f level.gap (reach_in f filter turn 1) level_pictures banded
+        turn-swept = swept-bands f filter level.gap turn padded work₀ coefficients work (picture_left level filter input) banded put old.swept
 
-        abbrev to : ℕ
-        to = came_to f.band_rows (rows_lag level filter) (turn + 8)
+    -- the steps have come to their pairs
+    module _ (most' : ℕ) (lifted : List ℤ) (placed : FrameFits f lifted) (swept : Swept f level.gap (reach_in f filter turn (suc filter.count)) level_pictures lifted) where
+      abbrev from : ℕ
+      from = came_to f.band_rows (rows_lag level filter) turn
 
-        pub turn-rows : (k : ℕ) → from ≤ k → k < to → pair_fits f filter lifted k ≡ pair_test level filter input k
-        turn-rows = rows_told level filter formed turn (frame_picture f work₀) input lifted placed swept
+      abbrev to : ℕ
+      to = came_to f.band_rows (rows_lag level filter) (turn + 8)
 
-        -- and the rows of its pairs are filtered
-        pub progress-more :
-            Bounded f level.gap (reach_in f filter turn (suc filter.count)) filter (suc most') lifted
-            → TurnFits f filter level.gap turn level_pictures → EachPair from to (pair_fits f filter lifted) → RoomFor level samples
-            → (work' samples' : List ℤ) → FramePut f from to (rows_left level filter lifted) lifted work'
-            → (finishes level ≡ true → SamplesPut (crop_of level) from to (row_made f filter lifted) samples samples')
-            → Progress most' (turn + 8) work' samples'
-        progress-more bounded steps-fit pairs_fit room work' samples' kept put =
-            record {
-              bounded =
-                  turn-over f.band_rows level.gap (last_of filter) turn _
-                  (bounded-rows level filter formed turn (frame_picture f work₀) input lifted placed swept work' kept (suc most') bounded);
-              swept =
-                  turn-over f.band_rows level.gap (last_of filter) turn _
-                  (swept-rows level filter formed turn (frame_picture f work₀) input lifted placed swept work' kept);
-              finished = λ yes.
-                  finished-more level filter formed turn (frame_picture f work₀) input lifted placed swept samples samples' (put yes) (room yes).0 (old.finished yes);
-              columns-fit = λ i few k start end.
-                  elim (dec_lt k (came_to f.band_rows ((i + 1) * level.gap) turn)) [
-                    | yes before ↦ old.columns-fit i few k start before
-                    | no due ↦ steps-fit i few k (omega arith) end
-                  ];
-              rows_fit = λ k start end.
-                  elim (dec_lt k from) [
-                    | yes before ↦ old.rows_fit k start before
-                    | no due ↦ sym (turn-rows k (omega arith) end) ∙ pairs_fit k (omega arith) end
-                  ];
-            }
+      pub turn-rows : (k : ℕ) → from ≤ k → k < to → pair_fits f filter lifted k ≡ pair_test level filter input k
+      turn-rows = rows_told level filter turn (frame_picture f work₀) input lifted placed swept
+
+      -- and the rows of its pairs are filtered
+      pub progress-more :
+          Bounded f level.gap (reach_in f filter turn (suc filter.count)) filter (suc most') lifted
+          → TurnFits f filter level.gap turn level_pictures → EachPair from to (pair_fits f filter lifted) → RoomFor level samples
+          → (work' samples' : List ℤ) → FramePut f from to (rows_left level filter lifted) lifted work'
+          → (finishes level ≡ true → SamplesPut (crop_of level) from to (row_made f filter lifted) samples samples')
+          → Progress most' (turn + 8) work' samples'
+      progress-more bounded steps-fit pairs_fit room work' samples' kept put =
+          record {
+            bounded =
+                turn-over f.band_rows level.gap (last_of filter) turn _
+                (bounded-rows level filter turn (frame_picture f work₀) input lifted placed swept work' kept (suc most') bounded);
+            swept =
+                turn-over f.band_rows level.gap (last_of filter) turn _
+                (swept-rows level filter turn (frame_picture f work₀) input lifted placed swept work' kept);
+            finished = λ yes.
+                finished-more level filter turn (frame_picture f work₀) input lifted placed swept samples samples' (put yes) (room yes).0 (old.finished yes);
+            columns-fit = λ i few k start end.
+                elim (dec_lt k (came_to f.band_rows ((i + 1) * level.gap) turn)) [
+                  | yes before ↦ old.columns-fit i few k start before
+                  | no due ↦ steps-fit i few k (omega arith) end
+                ];
+            rows_fit = λ k start end.
+                elim (dec_lt k from) [
+                  | yes before ↦ old.rows_fit k start before
+                  | no due ↦ sym (turn-rows k (omega arith) end) ∙ pairs_fit k (omega arith) end
+                ];
+          }

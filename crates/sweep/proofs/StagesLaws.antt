@@ -20,7 +20,8 @@ use Rattle.base.specs.Range.{fits32}
 use Rattle.base.proofs.EveryLaws.{all-at, all_from}
 use Rattle.lifting.specs.Layout.{run_on, numbers_fit, frame_picture}
 use Rattle.filters.specs.Passes.{Picture, Pass, columns, run, run_all, new_fit}
-use Rattle.filters.specs.Table.{step_of, WellFormed, filter_from}
+use Rattle.filters.specs.Steps.{step_of}
+use Rattle.filters.specs.Table.{filter_from}
 use Rattle.lifting.specs.declared.frame.Frame.{Frame}
 use Rattle.filters.specs.declared.filter.LiftingFilter.{LiftingFilter}
 use Rattle.filters.proofs.PassesLaws.{run_all-append, each-pass, all-passes}
@@ -278,45 +279,44 @@ module _ (f : Frame) (filter : LiftingFilter) (Q S Z : Picture) where
   unfolding stages_of
   stage-left = rw (lt-leb (suc filter.count) filter.count (omega arith))
 
-  module _ (formed : WellFormed filter) where
-    counted : length passes ≡ filter.count
-    counted = passes-counted filter formed.there columns
+  counted : length passes ≡ filter.count
+  counted = passes-counted filter columns
 
-    -- pass i is that of step i
-    pass-at : (i : ℕ) → i < filter.count → get_or passes i (columns (step_of (step_at filter i))) ≡ columns (step_of (step_at filter i))
-    pass-at i below = pass-in-use filter formed.there columns i _ below
+  -- pass i is that of step i
+  pass-at : (i : ℕ) → i < filter.count → get_or passes i (columns (step_of (step_at filter i))) ≡ columns (step_of (step_at filter i))
+  pass-at i below = pass-in-use filter columns i _ below
 
-    after_next : (i : ℕ) → i < filter.count → after (suc i) ≡ run h w (columns (step_of (step_at filter i))) (after i)
-    unfolding run_all
-    after_next i below =
-        let pass = columns (step_of (step_at filter i)) in
-        let longer : take (suc i) passes ≡ take i passes ++ (pass ∷ []) = take-suc passes i pass (omega (arith, counted)) ∙ rw (pass-at i below) in
-        rw longer (run_all-append h w (take i passes) (pass ∷ []) S)
+  after_next : (i : ℕ) → i < filter.count → after (suc i) ≡ run h w (columns (step_of (step_at filter i))) (after i)
+  unfolding run_all
+  after_next i below =
+      let pass = columns (step_of (step_at filter i)) in
+      let longer : take (suc i) passes ≡ take i passes ++ (pass ∷ []) = take-suc passes i pass (omega (arith, counted)) ∙ rw (pass-at i below) in
+      rw longer (run_all-append h w (take i passes) (pass ∷ []) S)
 
-    pub stages-made : Stages f filter stages_of
-    stages-made i below row x = rw (stage-after (suc i) below, stage-after i (omega arith), after_next i below)
+  pub stages-made : Stages f filter stages_of
+  stages-made i below row x = rw (stage-after (suc i) below, stage-after i (omega arith), after_next i below)
 
-    -- all steps make the picture of the columns
-    pub after-all : after filter.count ≡ run_on f passes S
-    after-all = ap (λ (ps : List Pass). run_all h w ps S) (take_all filter.count passes (omega (arith, counted)))
+  -- all steps make the picture of the columns
+  pub after-all : after filter.count ≡ run_on f passes S
+  after-all = ap (λ (ps : List Pass). run_all h w ps S) (take_all filter.count passes (omega (arith, counted)))
 
-    -- The test of step i, pair by pair.
-    step-test :
-        (i : ℕ) → i < filter.count
-        → new_fit h w (get_or passes i (columns (step_of (step_at filter i)))) (after (suc i))
-        ≡ all_below f.band_rows (λ k. all_below w (λ x. fits32 (after (suc i) (target_row (step_at filter i).even k) x)))
-    step-test i below = rw (pass-at i below) (new-rows (step_at filter i) f.band_rows (2 * f.band_columns) (after (suc i)))
+  -- The test of step i, pair by pair.
+  step-test :
+      (i : ℕ) → i < filter.count
+      → new_fit h w (get_or passes i (columns (step_of (step_at filter i)))) (after (suc i))
+      ≡ all_below f.band_rows (λ k. all_below w (λ x. fits32 (after (suc i) (target_row (step_at filter i).even k) x)))
+  step-test i below = rw (pass-at i below) (new-rows (step_at filter i) f.band_rows (2 * f.band_columns) (after (suc i)))
 
-    -- So the steps' new numbers fit where those of each step and pair do, and those of each where they do.
-    pub steps-fit : ((i k : ℕ) → i < filter.count → k < f.band_rows → step_fits f filter stages_of i k ≡ true) → numbers_fit f passes S ≡ true
-    steps-fit all =
-        all-passes h w passes S (λ i. columns (step_of (step_at filter i)))
-        (λ i inside.
-        let below : i < filter.count = omega (arith, counted) in
-        step-test i below ∙ all_from _ f.band_rows (λ k there. rw (stage-after (suc i) below) at (all i k below there)))
+  -- So the steps' new numbers fit where those of each step and pair do, and those of each where they do.
+  pub steps-fit : ((i k : ℕ) → i < filter.count → k < f.band_rows → step_fits f filter stages_of i k ≡ true) → numbers_fit f passes S ≡ true
+  steps-fit all =
+      all-passes h w passes S (λ i. columns (step_of (step_at filter i)))
+      (λ i inside.
+      let below : i < filter.count = omega (arith, counted) in
+      step-test i below ∙ all_from _ f.band_rows (λ k there. rw (stage-after (suc i) below) at (all i k below there)))
 
-    pub step_fits-told : numbers_fit f passes S ≡ true → (i k : ℕ) → i < filter.count → k < f.band_rows → step_fits f filter stages_of i k ≡ true
-    step_fits-told all i k below there =
-        let fits = sym (step-test i below) ∙ each-pass h w passes S i (columns (step_of (step_at filter i))) (omega (arith, counted)) all in
-        rw (stage-after (suc i) below)
-        (all-at (λ q. all_below w (λ x. fits32 (after (suc i) (target_row (step_at filter i).even q) x))) f.band_rows k fits there)
+  pub step_fits-told : numbers_fit f passes S ≡ true → (i k : ℕ) → i < filter.count → k < f.band_rows → step_fits f filter stages_of i k ≡ true
+  step_fits-told all i k below there =
+      let fits = sym (step-test i below) ∙ each-pass h w passes S i (columns (step_of (step_at filter i))) (omega (arith, counted)) all in
+      rw (stage-after (suc i) below)
+      (all-at (λ q. all_below w (λ x. fits32 (after (suc i) (target_row (step_at filter i).even q) x))) f.band_rows k fits there)

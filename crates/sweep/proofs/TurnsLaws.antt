@@ -15,8 +15,8 @@ use lib.ListN.{get_or}
 use Rattle.lines.proofs.SumsLaws.{sum_same}
 use Rattle.filters.specs.Lifting.{lift}
 use Rattle.filters.specs.Passes.{Picture, columns, run}
-use Rattle.filters.specs.Table.{step_of, WellFormedStep}
-use Rattle.filters.specs.declared.filter.LiftingStep.{LiftingStep}
+use Rattle.filters.specs.Steps.{step_of}
+use Rattle.filters.specs.declared.step.LiftingStep.{LiftingStep}
 use Rattle.filters.proofs.LiftingLaws.{lift-keeps}
 use Rattle.filters.specs.Pictures.{target_row, source_row}
 use Rattle.base.specs.Fill.{fill}
@@ -282,14 +282,14 @@ module _
 
         -- and of the rows that it makes
         pub stepped_within :
-            WellFormedStep r → new_row_fits f r plane k ≡ true
+            new_row_fits f r plane k ≡ true
             → (even : Bool) (x : ℕ) → x < w → nat_abs (stepped f r plane (target_row even k) x) ≤ bound_of (bounds_after r bounds) even
         unfolding picture_of run
-        stepped_within formed fit even x within =
+        stepped_within fit even x within =
             let line : ℕ → ℤ = λ row. frame_picture f plane row x in
             each-parity r.even (λ e. nat_abs (stepped f r plane (target_row e k) x) ≤ bound_of (bounds_after r bounds) e)
             (rw (target-bound-after r bounds, lift-at-target r b k line)
-            (after-size r formed (source_bound r bounds) (λ t. line (source_row r.even b (k + r.lead + t)))
+            (after-size r (source_bound r bounds) (λ t. line (source_row r.even b (k + r.lead + t)))
             (λ t taken. row_within.0 t taken x within)
             (line (target_row r.even k)) (target_bound r bounds) (row_within.1 x within)
             (rw (lift-at-target r b k line) at (all-at (λ y. fits32 (new_row f r k plane y)) w x fit within))))
@@ -319,14 +319,14 @@ module _
           (λ k even inside due. pair-stepped k inside due stages made all even) all
 
       pub bounded-more :
-          (size : ℕ) → WellFormedStep r → EachPair from to (new_row_fits f r plane) → Bounded f gap (reach_in f filter turn (suc i)) filter size plane
+          (size : ℕ) → EachPair from to (new_row_fits f r plane) → Bounded f gap (reach_in f filter turn (suc i)) filter size plane
           → Bounded f gap (reach_in f filter turn (suc (suc i))) filter size plane'
       unfolding bounds_by
-      bounded-more size formed fit all =
+      bounded-more size fit all =
           stage-bounded f filter gap turn (suc i) (omega arith) (stepped f r plane) plane plane' put_same size size (omega arith)
           (λ k even inside due few x within.
           let at = due-from b gap (last_of filter) turn (suc i) (omega arith) k inside due in
           let start : from ≤ k = omega (arith, lag-same, at.0) in
           let end : k < to = omega (arith, lag-same, at.1) in
-          rw (put.new k even x start end (target_below even k b inside) within) (stepped_within k inside due size all formed (fit k start end) even x within))
+          rw (put.new k even x start end (target_below even k b inside) within) (stepped_within k inside due size all (fit k start end) even x within))
           all

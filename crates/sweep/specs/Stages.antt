@@ -1,13 +1,13 @@
 -- The code's own forms: how the stages of a level follow each other in one sweep over the pairs of rows of a picture. No definition of the format
 -- rests on them.
-use Rattle.std.specs.Prelude.{◌≡◌, Bool, false, cond, List, [], ℕ, zero, suc, ◌+◌, ◌-◌, ◌*◌, ◌≤◌, ◌<◌, min, leb, eqb, ℤ, get_or}
+use Rattle.std.specs.Prelude.{◌≡◌, Bool, cond, List, ℕ, zero, suc, ◌+◌, ◌-◌, ◌*◌, ◌≤◌, ◌<◌, min, leb, eqb, ℤ, get_or}
 use Rattle.lifting.specs.Layout.{frame_picture}
 use Rattle.filters.specs.Passes.{Picture, columns, run}
-use Rattle.filters.specs.Table.{step_of}
+use Rattle.filters.specs.Steps.{step_of, one_tap}
 use Rattle.filters.specs.Pictures.{target_row}
 use Rattle.lifting.specs.declared.frame.Frame.{Frame}
 use Rattle.filters.specs.declared.filter.LiftingFilter.{LiftingFilter}
-use Rattle.filters.specs.declared.filter.LiftingStep.{LiftingStep}
+use Rattle.filters.specs.declared.step.LiftingStep.{LiftingStep}
 
 -- A pair of rows goes from stage to stage: at stage 0 it is as it came, at stage 1 its bands are interleaved, at stage n + 1 it has had n steps,
 -- and at the last stage its rows are filtered. Each turn of the sweep brings eight pairs to each stage, `gap` pairs behind the stage before.
@@ -34,7 +34,7 @@ Staged pairs gap reach T = (stage k : ℕ) (even : Bool) → k < pairs → At ga
 
 -- Step i of a filter.
 abbrev pub step_at : LiftingFilter → ℕ → LiftingStep
-step_at f i = get_or f.steps i (record { even = false; adds = false; lead = 0; taps = []; count = 0; scale = 0; gain = 0 })
+step_at f i = get_or f.steps i one_tap
 
 -- No step reads farther than `gap` pairs from the pair that it changes.
 abbrev pub Spaced : LiftingFilter → ℕ → Type 0

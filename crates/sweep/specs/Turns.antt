@@ -6,12 +6,12 @@ use Rattle.base.specs.Range.{fits32}
 use Rattle.lines.specs.Buffers.{Within}
 use Rattle.filters.specs.Passes.{Picture, columns, run}
 use Rattle.filters.specs.Bounds.{bound_of, bounds_after}
-use Rattle.filters.specs.Table.{step_of}
+use Rattle.filters.specs.Steps.{step_of}
 use Rattle.lifting.specs.Layout.{frame_picture}
 use Rattle.filters.specs.Pictures.{target_row}
 use Rattle.lifting.specs.declared.frame.Frame.{Frame}
 use Rattle.filters.specs.declared.filter.LiftingFilter.{LiftingFilter}
-use Rattle.filters.specs.declared.filter.LiftingStep.{LiftingStep}
+use Rattle.filters.specs.declared.step.LiftingStep.{LiftingStep}
 use Rattle.filters.specs.declared.bounds.Bounds.{Bounds}
 use Rattle.sweep.specs.Pairs.{EachPair}
 use Rattle.sweep.specs.Stages.{Staged, step_at, came_to}

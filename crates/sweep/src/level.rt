@@ -2,7 +2,6 @@
 ghost use Rattle.std.specs.Prelude.{◌≡◌, true, ◌≤◌, is_ok};
 ghost use Rattle.lifting.specs.Layout.{FrameFits, AgreeOn, frame_picture};
 ghost use Rattle.filters.specs.Planes.{picture_of};
-ghost use Rattle.filters.specs.Table.{WellFormed};
 ghost use Rattle.filters.specs.Pictures.{Agree};
 ghost use Rattle.sweep.specs.Bands.{BandsInside};
 ghost use Rattle.sweep.specs.Pairs.{Tells, EachPair, FramePut};
@@ -40,7 +39,7 @@ pub fn sweep_level(
     level: Level,
     filter: LiftingFilter,
 ) -> Result<(), OutOfRange>
-    requires frame_fits { FrameFits level.frame work.old × WellFormed filter × Spaced filter level.gap × (level.gap ≤ 4) × RoomFor level samples.old }
+    requires frame_fits { FrameFits level.frame work.old × Spaced filter level.gap × (level.gap ≤ 4) × RoomFor level samples.old }
     requires bands_inside { BandsInside level.frame padded_width coefficients.now }
     ensures told { is_ok result ≡ level_fits level filter padded_width work.old coefficients.now }
     ensures done { is_ok result ≡ true → AgreeOn level.frame (frame_picture level.frame work.new)
@@ -80,7 +79,7 @@ fn filter_pairs(
     from: usize,
     to: usize,
 ) -> Result<(), OutOfRange>
-    requires frame_fits { FrameFits level.frame work.old × WellFormed filter × RoomFor level samples.old }
+    requires frame_fits { FrameFits level.frame work.old × RoomFor level samples.old }
     requires from_le_to { (from ≤ to) × (to ≤ level.frame.band_rows) }
     ensures told { Tells (is_ok result) (EachPair from to (pair_fits level.frame filter work.old)) }
     ensures done { is_ok result ≡ true → FramePut level.frame from to (rows_left level filter work.old) work.old work.new }

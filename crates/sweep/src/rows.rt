@@ -1,7 +1,6 @@
 // The last stage of a sweep: the rows of a pair are filtered, in place or into the samples.
 ghost use Rattle.std.specs.Prelude.{◌≡◌, true, ◌*◌, ◌<◌, is_ok};
 ghost use Rattle.base.specs.Fill.{fill};
-ghost use Rattle.filters.specs.Table.{WellFormed};
 ghost use Rattle.lifting.specs.Layout.{FrameFits};
 ghost use Rattle.sweep.specs.Rows.{RowInside, row_fits, pair_fits};
 ghost use Rattle.sweep.specs.LastStage.{RowRoom, rows_left, pair_left, row_kept, samples_left};
@@ -28,7 +27,7 @@ pub fn filter_pair(
     filter: LiftingFilter,
     k: usize,
 ) -> Result<(), OutOfRange>
-    requires { FrameFits level.frame work.old × WellFormed filter × RowRoom level samples.old × (k < level.frame.band_rows) }
+    requires { FrameFits level.frame work.old × RowRoom level samples.old × (k < level.frame.band_rows) }
     ensures told { is_ok result ≡ pair_fits level.frame filter work.old k }
     ensures done { is_ok result ≡ true → work.new ≡ pair_left level filter k work.old }
     ensures finished { is_ok result ≡ true → samples.new ≡ samples_left level filter k work.old samples.old }
@@ -37,7 +36,8 @@ pub fn filter_pair(
     filter_row_of(work, samples, halves, level, filter, 2 * k + 1)
 }
 
-// The same for one row of the level's frame.
+// The same for one row of the level's frame. Not inlined, it would be handed a copy of the filter for each row.
+#[inline(always)]
 fn filter_row_of(
     work: &mut [i32],
     samples: &mut [i32],
@@ -46,7 +46,7 @@ fn filter_row_of(
     filter: LiftingFilter,
     row: usize,
 ) -> Result<(), OutOfRange>
-    requires { WellFormed filter × RowInside level.frame row work.old × RowRoom level samples.old }
+    requires { RowInside level.frame row work.old × RowRoom level samples.old }
     ensures told { is_ok result ≡ row_fits level.frame filter work.old row }
     ensures done { is_ok result ≡ true → work.new
         ≡ fill work.old (row * level.frame.stride) (2 * level.frame.band_columns) (rows_left level filter work.old row) }

@@ -3,7 +3,6 @@ ghost use Rattle.std.specs.Prelude.{◌≡◌, true, ℕ, suc, ◌≤◌, ◌<�
 ghost use Rattle.lifting.specs.Layout.{FrameFits};
 ghost use Rattle.filters.specs.Passes.{Picture};
 ghost use Rattle.filters.specs.Bounds.{BoundsFit};
-ghost use Rattle.filters.specs.Table.{WellFormedStep, WellFormed};
 ghost use Rattle.lifting.specs.LineBounds.{StepRowsWithin};
 ghost use Rattle.lifting.specs.Lines.{new_row_fits};
 ghost use Rattle.sweep.specs.Pairs.{Tells, EachPair, FramePut};
@@ -12,7 +11,8 @@ ghost use Rattle.sweep.specs.Turns.{Bounded, TurnFits, stepped};
 
 use base::status::OutOfRange;
 use filters::bounds::{Bounds, bounds_after};
-use filters::filter::{LiftingFilter, LiftingStep};
+use filters::filter::LiftingFilter;
+use filters::step::LiftingStep;
 use lifting::columns::lift_row;
 use lifting::frame::Frame;
 
@@ -36,7 +36,7 @@ pub fn lift_turn(
     turn: usize,
     most: u32,
 ) -> Result<(), OutOfRange>
-    requires frame_fits { FrameFits frame work.old × WellFormed filter × Spaced filter gap × (gap ≤ 4) × (turn < 4096) }
+    requires frame_fits { FrameFits frame work.old × Spaced filter gap × (gap ≤ 4) × (turn < 4096) }
     requires bounded_2 { Bounded frame gap (reach_in frame filter turn 1) filter (suc most) work.old }
     ensures bounded { is_ok result ≡ true → Bounded frame gap (reach_in frame filter turn (suc filter.count)) filter (suc most) work.new }
     ensures swept { (stages : ℕ → Picture) → Stages frame filter stages → Swept frame gap (reach_in frame filter turn 1) stages work.old
@@ -67,7 +67,7 @@ fn lift_rows(
     to: usize,
     bounds: Bounds,
 ) -> Result<(), OutOfRange>
-    requires frame_fits { FrameFits frame work.old × WellFormedStep step × BoundsFit bounds }
+    requires frame_fits { FrameFits frame work.old × BoundsFit bounds }
     requires from_le_to { (from ≤ to) × (to ≤ frame.band_rows) × ((k : ℕ) → from ≤ k → k < to → StepRowsWithin frame step k bounds work.old) }
     ensures told { Tells (is_ok result) (EachPair from to (new_row_fits frame step work.old)) }
     ensures done { is_ok result ≡ true → FramePut frame from to (stepped frame step work.old) work.old work.new }

@@ -9,8 +9,9 @@ ghost use Rattle.std.specs.Prelude.{◌*◌, ◌≤◌, IfSome};
 
 use crate::input::{HEADER_SIZE, parameters_of, read_plane};
 use crate::output::{print_answer, print_rows};
+use base::status::Refusal;
 use component::checks::{area_within, padded_area};
-use component::parameters::Parameters;
+use component::parameters::{Answer, Parameters};
 use std::io;
 use std::io::Read;
 use text::read_full;
@@ -110,16 +111,17 @@ fn synthesise_and_print(
 {
     work.fill(7);
     samples.fill(7);
-    let answer = transform::synthesise(p, coefficients, work, samples);
-    print_answer(rt, p, answer)?;
-    let status = answer.status;
-    if status == 0 {
+    let synthesised = transform::synthesise(p, coefficients, work, samples);
+    print_answer(rt, p, Answer::from(synthesised))?;
+    if synthesised.is_ok() {
         print_rows(rt, samples, p.width as usize)?;
     }
-    if (status == 0 || status == 10) && !is_zero(work) {
+    let overflowed = synthesised.is_err_and(|refused| refused.refusal
+        == Refusal::SynthesisOutOfRange);
+    if (synthesised.is_ok() || overflowed) && !is_zero(work) {
         rt.write_all(b"work not zero\n")?;
     }
-    if status == 10 && !is_zero(samples) {
+    if overflowed && !is_zero(samples) {
         rt.write_all(b"samples not zero\n")?;
     }
     Ok(())

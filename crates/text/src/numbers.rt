@@ -17,6 +17,7 @@ impl<const N: usize> TextBuffer<N> {
     }
 
     // Puts a number, with a minus sign where it is negative.
+    #[tactic(auto, unfolding(crate::specs::Text::ascii, crate::specs::Text::signed_text))]
     fn put_signed(&mut self, number: i32)
         requires { length self.old + 21 ≤ N }
         ensures put { self.new ≡ self.old ++ signed_text number }
@@ -29,6 +30,7 @@ impl<const N: usize> TextBuffer<N> {
     }
 
     // Puts a space and a number.
+    #[tactic(auto, unfolding(crate::specs::Text::ascii))]
     fn put_next(&mut self, number: i32)
         requires { length self.old + 22 ≤ N }
         ensures put { self.new ≡ self.old ++ (ascii " " ++ signed_text number) }
@@ -50,6 +52,7 @@ impl<const N: usize> TextBuffer<N> {
     }
 
     // Puts a row of numbers as a line.
+    #[tactic(auto, unfolding(crate::specs::Text::ascii, crate::specs::Text::row_text))]
     pub fn put_row(&mut self, numbers: &[i32])
         requires { length self.old + 12 * length numbers.now + 21 ≤ N }
         ensures put { self.new ≡ self.old ++ row_text numbers.now }

@@ -29,7 +29,7 @@ use Rattle.base.specs.Range.{fits32}
 use Rattle.base.proofs.Parity.{even-test, odd-test}
 use Rattle.lines.specs.Buffers.{shifted}
 use Rattle.filters.specs.Lifting.{Step}
-use Rattle.filters.specs.Table.{WellFormed, filter_from}
+use Rattle.filters.specs.Table.{filter_from}
 use Rattle.filters.specs.declared.filter.LiftingFilter.{LiftingFilter}
 use Rattle.filters.proofs.TableLaws.{filter-fits}
 use Rattle.sweep.specs.Rows.{halved_of, both_fit, by_columns, by_rows}
@@ -262,7 +262,7 @@ module _ (f : Filter) (bh b : ℕ) (tall : 1 ≤ bh) (wide : 1 ≤ b) (I : Pictu
         by false e = rw e (level-fails e)
 
 module _
-    (f : Frame) (filter : LiftingFilter) (formed : WellFormed filter) (tall : 1 ≤ f.band_rows) (wide : 1 ≤ f.band_columns) (padded : ℕ) (work coefficients : List ℤ)
+    (f : Frame) (filter : LiftingFilter) (tall : 1 ≤ f.band_rows) (wide : 1 ≤ f.band_columns) (padded : ℕ) (work coefficients : List ℤ)
   where
     abbrev S : Picture
     S = band_rows f padded work coefficients
@@ -275,7 +275,7 @@ module _
     pub swept-told : both_fit f filter S ≡ numbers_fit f (synthesis_passes (filter_from filter)) I
     swept-told =
         level-both (filter_from filter) f.band_rows f.band_columns tall wide I S (bands-interleaved f padded work coefficients)
-        (λ rows_fit. filter-fits _ _ _ _ _ formed.all_changed rows_fit)
+        (λ rows_fit. filter-fits _ _ _ _ _ filter.all_changed rows_fit)
 
     -- and its picture
     pub swept-made : both_fit f filter S ≡ true → AgreeOn f (by_rows f filter (by_columns f filter S)) (run_on f (synthesis_passes (filter_from filter)) I)

@@ -1,7 +1,6 @@
 // Document 01, "Synthesis and analysis": the levels of synthesis, in the work plane, and the last of them into the samples.
 ghost use Rattle.std.specs.Prelude.{◌≡◌, true, suc, ◌-◌, ◌*◌, ◌^◌, ◌≤◌, is_ok, OnOk};
 ghost use Rattle.component.specs.Sizes.{size_at};
-ghost use Rattle.filters.specs.Table.{WellFormed};
 ghost use Rattle.transform.specs.Geometry.{Planes, coefficient_picture, picture_at, first_bad_at, level_input, level_picture, level_numbers_fit, TellsBad, Stands};
 
 use crate::bands::copy_rows;
@@ -37,7 +36,7 @@ pub fn synthesise_levels(
     n: usize,
 ) -> Result<(), usize>
     requires planes { Planes extent work.old samples.old coefficients.now }
-    requires well_formed { WellFormed filter × (n ≤ extent.depth) }
+    requires in_depth { n ≤ extent.depth }
     ensures told { TellsBad result (first_bad_at filter extent coefficients.now n) }
     ensures done { OnOk result (Stands extent n (picture_at filter extent coefficients.now n) work.old work.new samples.new) }
 {
@@ -88,7 +87,7 @@ fn synthesise_level(
     below: usize,
 ) -> Result<(), OutOfRange>
     requires planes { Planes extent work.old samples.old coefficients.now }
-    requires well_formed { WellFormed filter × (suc below ≤ extent.depth) }
+    requires in_depth { suc below ≤ extent.depth }
     ensures told { is_ok result ≡ level_numbers_fit filter extent below (level_input extent work.old coefficients.now below) }
     ensures done { is_ok result ≡ true → Stands extent (suc below)
         (level_picture filter extent below (level_input extent work.old coefficients.now below))

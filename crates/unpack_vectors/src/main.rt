@@ -9,7 +9,7 @@ ghost use Rattle.std.specs.Prelude.{◌≤◌, length};
 
 use crate::input::{HEADER_SIZE, byte_count, parameters_of, plane_length};
 use crate::output::print_answer;
-use component::parameters::Parameters;
+use component::parameters::{Answer, Parameters};
 use std::io;
 use std::io::Read;
 use text::read_full;
@@ -94,7 +94,7 @@ fn unpack_and_print(
     requires { length plane.old ≤ 4096 }
 {
     plane.fill(7);
-    let answer = unpack::unpack(p, bytes, plane);
-    print_answer(rt, p, bytes.len(), answer)?;
+    let unpacked = unpack::unpack(p, bytes, plane);
+    print_answer(rt, p, bytes.len(), Answer::from(unpacked))?;
     print_row(&mut io::writer(rt), plane)
 }

@@ -42,6 +42,7 @@ pub fn put_named<const N: usize>(text: &mut TextBuffer<N>, name: &[u8], number: 
 }
 
 // Puts what a job is.
+#[tactic(auto, unfolding(crate::specs::Lines::job_text, text::specs::Text::ascii))]
 pub fn put_job<const N: usize>(text: &mut TextBuffer<N>, p: Parameters)
     requires { length text.old + 97 ≤ N }
     ensures put { text.new ≡ text.old ++ job_text p }
@@ -54,6 +55,7 @@ pub fn put_job<const N: usize>(text: &mut TextBuffer<N>, p: Parameters)
 }
 
 // Puts what a job answers.
+#[tactic(auto, unfolding(crate::specs::Lines::answer_text, text::specs::Text::ascii))]
 pub fn put_answer<const N: usize>(text: &mut TextBuffer<N>, answer: Answer)
     requires { length text.old + 56 ≤ N }
     ensures put { text.new ≡ text.old ++ answer_text answer }

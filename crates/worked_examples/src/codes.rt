@@ -1,7 +1,7 @@
 // "31 and 32 data bits", by the reader of number codes itself.
 ghost use Rattle.std.specs.Prelude.{◌+◌, ◌≤◌, length};
 
-use exp_golomb::codes::{Number, read_unsigned, status};
+use exp_golomb::codes::read_unsigned;
 use std::io;
 use text::TextBuffer;
 use vector_io::{LINE_ROOM, put_named};
@@ -55,28 +55,23 @@ fn read_and_print(
 ) -> io::Result<()> {
     let number = read_unsigned(bytes, end, stated, 0);
     let mut line = TextBuffer::<LINE_ROOM>::new();
-    put_named(&mut line, b": status ", u64::from(status(number)));
-    put_next(&mut line, number);
+    match number {
+        Ok(read) => {
+            put_end(&mut line, 0, read.next);
+            put_named(&mut line, b": ", u64::from(read.size));
+        }
+        Err(fault) => put_end(&mut line, fault.refusal.number(), fault.bit),
+    }
     line.put_word(b"\n");
     rt.write_all(case)?;
     rt.write_all(line.as_bytes())
 }
 
-// Puts the bit after those taken, and the number that was read.
-fn put_next(text: &mut TextBuffer<LINE_ROOM>, number: Number)
-    requires { length text.old + 52 ≤ 4096 }
-    ensures { length text.new ≤ length text.old + 52 }
+// Puts the status of a number, and the bit after those taken.
+fn put_end(text: &mut TextBuffer<LINE_ROOM>, status: u32, next: usize)
+    requires { length text.old + 60 ≤ 4096 }
+    ensures { length text.new ≤ length text.old + 60 }
 {
-    match number {
-        Number::Read {
-            size,
-            minus: _,
-            next,
-        } => {
-            put_named(text, b" next bit ", next as u64);
-            put_named(text, b": ", u64::from(size));
-        }
-        Number::Missing { next } => put_named(text, b" next bit ", next as u64),
-        Number::TooLong { next } => put_named(text, b" next bit ", next as u64),
-    }
+    put_named(text, b": status ", u64::from(status));
+    put_named(text, b" next bit ", next as u64);
 }

@@ -1,5 +1,5 @@
 -- `prediction::predict_value` meets its contract: the sum fits 64 bits, and is stored where it fits 32.
-use mathlib.Core.Path.{◌≡◌}
+use mathlib.Core.Path.{◌≡◌, sym}
 use Prim.Native.Nat.{◌+◌, ◌*◌}
 use native.Mathlib.Omega.{arith}
 use borrow.Author.Rules.{rules}
@@ -9,8 +9,8 @@ use mir.Syntax.{w32, w64}
 use mir.Val.{to_z, of_z}
 use Rattle.std.proofs.Common.{FitsSigned}
 use Rattle.std.proofs.lemmas.Int.{ints}
-use Rattle.std.proofs.lemmas.Result.{OkIff-at_ok, OkIff-at_err, err_from_is_err_and}
-use Rattle.base.proofs.RangeLaws.{back, below-fits32, fits32-outside}
+use Rattle.std.proofs.lemmas.Result.{err_from_is_err_and}
+use Rattle.base.proofs.RangeLaws.{back, fits32-below}
 use Rattle.prediction.specs.Prediction.{predictor}
 use Rattle.prediction.proofs.PredictionLaws.{value-stored, value-not-stored}
 use Rattle.prediction.proofs.predict_value.Goals as goal
@@ -29,12 +29,9 @@ sum c =
 pub returns-in_err-plane : goal.returns-in_err-plane
 returns-in_err-plane c =
     let p = err_from_is_err_and c.from_residual.result c.from_residual.ensures.1 in
-    rw p.1
-    (value-not-stored _ _ _ _ _ (sum (goal.at.returns-in_err-plane c).After-predictor_at)
-    (fits32-outside _ (OkIff-at_err _ _ _ _ c.try_from.ensures c.in_err-plane.was)))
+    rw p.1 (value-not-stored _ _ _ _ _ (sum (goal.at.returns-in_err-plane c).After-predictor_at) (sym c.in_err-plane.ensures.told))
 
 pub returns : goal.returns
 returns c =
-    let kept = OkIff-at_ok _ _ _ _ c.try_from.ensures c.in_ok-plane.was in
-    rw (kept.1, back w32 _ kept.0.sfits)
-    (value-stored _ _ _ _ _ (sum (goal.at.returns c).After-predictor_at) (below-fits32 _ kept.0.sfits))
+    let fits = sym c.in_ok-plane.ensures.told in
+    rw (c.in_ok-plane.ensures.same, back w32 _ (fits32-below _ fits)) (value-stored _ _ _ _ _ (sum (goal.at.returns c).After-predictor_at) fits)

@@ -30,7 +30,7 @@ synthesise_levels-requires c =
         c.requires.coefficients_len.0 ∙ sym c.requires.coefficients_len.1,
         subst (λ (e : Extent). e.height * e.width ≤ length c.args.samples.now) back (omega (arith, c.requires.coefficients_len.2, mul_comm p.height p.width)),
       );
-      well_formed = (c.filter_of-filter.ensures.1, omega arith);
+      in_depth = omega arith;
     }
 
 pub returns : goal.returns
@@ -39,7 +39,7 @@ returns c =
     let p = c.args.p in
     let coefficients = c.args.coefficients.now in
     let is = c.extent_of-extent.ensures in
-    let same = c.filter_of-filter.ensures.0 in
+    let same = c.filter_of-filter.ensures in
     let levels = c.synthesise_levels.ensures in
     record {
       told = subst

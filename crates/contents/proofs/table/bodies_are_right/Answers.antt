@@ -1,8 +1,5 @@
-use mathlib.Core.Path.{◌≡◌, sym, ap, ◌∙◌}
-use Prim.Native.Nat.{ℕ}
+use mathlib.Core.Path.{◌≡◌, sym, ◌∙◌}
 use native.Mathlib.Omega.{arith}
-use lib.Dec.{eqb}
-use lib.ListN.{length}
 use Rattle.base.proofs.EveryLaws.{all_none, all_more, all-not}
 use Rattle.base.proofs.Booleans.{and-true}
 use Rattle.contents.specs.Table.{length_at, entry_is_right}
@@ -35,9 +32,3 @@ loop-k-preserved c =
       all_more (entry_is_right file) c.loop-k.k
           ∙ and-true _ _ c.loop-k.invariant.2 passed,
     )
-
-pub returns : goal.returns
-returns c =
-    let file = c.args.file.now in
-    let all : c.args.count ≡ c.loop-k.k = omega arith in
-    rw (all, c.loop-k.invariant.2) (ap (λ (n : ℕ). eqb n (length file)) c.loop-k.invariant.0)

@@ -1,4 +1,4 @@
-use mathlib.Core.Path.{◌≡◌, refl, sym, ◌∙◌}
+use mathlib.Core.Path.{◌≡◌, refl, ◌∙◌}
 use Prim.Native.Nat.{◌^◌}
 use native.Mathlib.Numerals.{add-one}
 use native.Mathlib.Omega.{arith}
@@ -7,13 +7,13 @@ use lib.ListN.{get_or}
 use mir.Syntax.{w64}
 use Rattle.base.proofs.Integers.{mag-size}
 use Rattle.base.proofs.RangeLaws.{back}
-use Rattle.filters.specs.Table.{sizes_of}
-use Rattle.filters.proofs.TableLaws.{sizes-more, sizes-most}
+use Rattle.lines.specs.Sums.{sizes_below}
+use Rattle.filters.proofs.TableLaws.{sizes-most}
 use Rattle.filters.proofs.table.gain_of.Goals as goal
 use Rattle.filters.proofs.table.gain_of.Goals.{After-unsigned_abs-gain}
 
 pub loop-t-init : goal.loop-t-init
-unfolding sizes_of
+unfolding sizes_below
 loop-t-init c = refl
 
 -- a tap's size
@@ -27,11 +27,12 @@ overflow_add-gain c =
     omega (
       arith,
       c.loop-t.invariant,
-      sizes-most c.args.taps.now c.loop-t.t (2 ^ 13) (λ k h. c.requires.1 k (omega arith)),
+      sizes-most (λ t. get_or c.args.taps.now t (pos 0)) c.loop-t.t (2 ^ 13) (λ k h. c.requires.1 k (omega arith)),
       c.requires.1 c.loop-t.t (omega arith),
       size (goal.at.overflow_add-gain c).After-unsigned_abs-gain,
     )
 
 pub loop-t-preserved : goal.loop-t-preserved
+unfolding sizes_below
 loop-t-preserved c =
-    rw (size (goal.at.loop-t-preserved c).After-unsigned_abs-gain, c.loop-t.invariant, add-one c.loop-t.t) (sym (sizes-more c.args.taps.now c.loop-t.t))
+    rw (size (goal.at.loop-t-preserved c).After-unsigned_abs-gain, c.loop-t.invariant, add-one c.loop-t.t)

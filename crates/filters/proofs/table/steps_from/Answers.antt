@@ -6,7 +6,7 @@ use borrow.Author.Count.{below_more}
 use lib.ListN.{get_or, set, length-set}
 use lib.Seq.{get_or-set_same, get_or-set_other}
 use Rattle.filters.specs.Table.{StepAt}
-use Rattle.filters.specs.declared.filter.LiftingStep.{LiftingStep}
+use Rattle.filters.specs.declared.step.LiftingStep.{LiftingStep}
 use Rattle.filters.proofs.TableLaws.{row-record}
 use Rattle.filters.proofs.table.steps_from.Goals as goal
 

@@ -15,7 +15,7 @@ use Rattle.lifting.proofs.columns.lift_row.Goals.{After-target_row}
 room : (c : After-target_row) → c.target_row.result * c.args.frame.stride + 2 * c.args.frame.band_columns ≤ length c.args.work.now
 room c =
     let frame = c.args.frame in
-    let row : c.target_row.result < 2 * frame.band_rows = rw c.target_row.ensures (target_below _ _ _ c.requires.frame_fits.2) in
+    let row : c.target_row.result < 2 * frame.band_rows = rw c.target_row.ensures (target_below _ _ _ c.requires.frame_fits.1) in
     omega (arith, row_room frame.stride c.target_row.result (2 * frame.band_rows) row)
 
 source-room : (c : After-target_row) (t : ℕ) → t < 8 → get_or c.row_starts-starts.result t 0 + 2 * c.args.frame.band_columns ≤ length c.args.work.now
@@ -39,7 +39,7 @@ overflow_mul-target c = omega (arith, room (goal.at.overflow_mul-target c).After
 
 -- the line can be lifted, and keeps to the bounds
 few : (c : After-target_row) (t : ℕ) → t < c.args.step.count → t < 8
-few c t h = omega (arith, c.requires.frame_fits.1.few_taps)
+few c t h = omega (arith, c.args.step.few_taps)
 
 pub lift-requires : goal.lift-requires
 lift-requires c =
@@ -47,7 +47,6 @@ lift-requires c =
     record {
       line_inside = (
         record {
-          formed = c.requires.frame_fits.1;
           width_most = omega (arith, c.requires.frame_fits.0.columns_most);
           inside = room at;
           sources_inside = λ t h. source-room at t (few at t h);
@@ -58,7 +57,7 @@ lift-requires c =
           target = rw c.target_row.ensures c.requires.step_rows_within.1;
         },
       );
-      bounds_fit = c.requires.frame_fits.3;
+      bounds_fit = c.requires.frame_fits.2;
     }
 
 -- the row is that of document 01

@@ -20,9 +20,9 @@ overflow_add-bounds-2 c = record { fits = omega (arith, c.copy_measured-high_mos
 pub filter_halves-requires : goal.filter_halves-requires
 filter_halves-requires c =
     let within =
-    halves-measured c.args.half c.args.start c.args.work.now c.args.halves.now c.copy_measured-low_most.new.plane c.copy_measured-high_most.new.plane c.requires.1.1 (omega arith)
+    halves-measured c.args.half c.args.start c.args.work.now c.args.halves.now c.copy_measured-low_most.new.plane c.copy_measured-high_most.new.plane c.requires.1 (omega arith)
     c.copy_measured-low_most.ensures.copied c.copy_measured-high_most.ensures.copied c.copy_measured-low_most.result c.copy_measured-high_most.result c.copy_measured-low_most.ensures.measured c.copy_measured-high_most.ensures.measured
-    in record { le_half = (c.requires.1.0, c.requires.1.1, c.requires.0); halves_within = (omega (arith, c.copy_measured-low_most.type_inv), omega (arith, c.copy_measured-high_most.type_inv), within.0, within.1) }
+    in record { le_half = (c.requires.0, c.requires.1); halves_within = (omega (arith, c.copy_measured-low_most.type_inv), omega (arith, c.copy_measured-high_most.type_inv), within.0, within.1) }
 
 -- the buffer holds the row's halves
 copied :
@@ -31,15 +31,15 @@ copied :
     → interleaved c.copy_measured-high_most.new.plane x ≡ get_or c.args.work.now (c.args.start + half_index c.args.half x) (pos 0)
 copied c =
     halves-copied c.args.half c.args.start c.args.work.now c.args.halves.now c.copy_measured-low_most.new.plane c.copy_measured-high_most.new.plane
-    c.requires.1.1 (omega arith) c.copy_measured-low_most.ensures.copied c.copy_measured-high_most.ensures.copied
+    c.requires.1 (omega arith) c.copy_measured-low_most.ensures.copied c.copy_measured-high_most.ensures.copied
 
 pub returns : goal.returns
 returns c =
     let steps = (filter_from c.args.filter).steps in
     let halves = c.copy_measured-high_most.new.plane in record {
       told = c.filter_halves.ensures.told
-          ∙ row_told steps c.args.half c.args.start c.requires.1.0 c.args.work.now halves (copied (goal.at.returns c).After-copy_measured-high_most);
+          ∙ row_told steps c.args.half c.args.start c.requires.0 c.args.work.now halves (copied (goal.at.returns c).After-copy_measured-high_most);
       done = λ fits x inside.
           c.filter_halves.ensures.done fits x inside
-          ∙ row-run steps c.args.half c.args.start c.requires.1.0 c.args.work.now halves (copied (goal.at.returns c).After-copy_measured-high_most) x inside;
+          ∙ row-run steps c.args.half c.args.start c.requires.0 c.args.work.now halves (copied (goal.at.returns c).After-copy_measured-high_most) x inside;
     }

@@ -30,10 +30,10 @@ extend-requires c =
     (source-most (goal.at.extend-requires c).After-base_of-source, c.requires.le_half.0, c.requires.le_half.1)
 
 pub overflow_add-source : goal.overflow_add-source
-overflow_add-source c = omega (arith, source-most (goal.at.overflow_add-source c).After-base_of-source, c.requires.le_half.2.in_buffer)
+overflow_add-source c = omega (arith, source-most (goal.at.overflow_add-source c).After-base_of-source, c.args.step.in_buffer)
 
 pub line_starts-starts-requires : goal.line_starts-starts-requires
-line_starts-starts-requires c = omega (arith, source-most (goal.at.line_starts-starts-requires c).After-base_of-source, c.requires.le_half.2.in_buffer)
+line_starts-starts-requires c = omega (arith, source-most (goal.at.line_starts-starts-requires c).After-base_of-source, c.args.step.in_buffer)
 
 -- the buffer with the ends of the half that is read repeated
 abbrev extended : After-line_starts-starts → List ℤ
@@ -49,7 +49,6 @@ ready c =
     let ends = c.extend.ensures in
     let within = halves-before c.args.step c.args.half c.args.bounds c.args.halves.now c.requires.halves_within in
     record {
-      formed = c.requires.le_half.2;
       some = c.requires.le_half.0;
       apart = bases-apart c.args.step.even c.args.half c.requires.le_half.1;
       ends = rw source at ends.repeated;
@@ -65,17 +64,16 @@ line-inside :
     → let args = c.args in
     LineInside args.step c.line_starts-starts.result (extended c) (base_of args.step.even + 4) args.half
 line-inside c long =
-    let formed = c.requires.le_half.2 in
+    let step = c.args.step in
     let even = c.args.step.even in
     let starts = (ready c).placed in
     record {
-      formed = formed;
       width_most = omega (arith, c.requires.le_half.1);
       inside = omega (arith, long, c.requires.le_half.1, base-most even);
-      sources_inside = λ t h. rw (starts t (omega (arith, formed.few_taps))) (omega (arith, long, formed.in_buffer, c.requires.le_half.1, base-most (not even)));
+      sources_inside = λ t h. rw (starts t (omega (arith, step.few_taps))) (omega (arith, long, step.in_buffer, c.requires.le_half.1, base-most (not even)));
       apart = λ t x k h hx hk.
-          rw (starts t (omega (arith, formed.few_taps)))
-          (λ e. (ready c).apart (4 + k) (c.args.step.lead + t + x) (omega arith) (omega (arith, formed.in_buffer)) (omega (arith, e)));
+          rw (starts t (omega (arith, step.few_taps)))
+          (λ e. (ready c).apart (4 + k) (c.args.step.lead + t + x) (omega arith) (omega (arith, step.in_buffer)) (omega (arith, e)));
     }
 
 pub lift-requires : goal.lift-requires

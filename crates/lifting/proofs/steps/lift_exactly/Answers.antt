@@ -22,7 +22,7 @@ overflow_sub-width c = omega (arith, c.loop-done.invariant.0)
 
 pub moved_by-part_starts-requires : goal.moved_by-part_starts-requires
 moved_by-part_starts-requires c =
-    (c.requires.formed.few_taps, λ t h. omega (arith, c.loop-done.invariant.0, c.requires.sources_inside t h, c.well_formed.0.0))
+    (c.args.step.few_taps, λ t h. omega (arith, c.loop-done.invariant.0, c.requires.sources_inside t h, c.well_formed.0.0))
 
 pub overflow_add-start : goal.overflow_add-start
 overflow_add-start c =

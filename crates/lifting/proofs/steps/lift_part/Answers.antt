@@ -20,11 +20,11 @@ use Rattle.lifting.proofs.steps.lift_part.Goals.{After-rounding_of-round}
 
 -- what it is rounded with is document 01's
 rounded : (c : After-rounding_of-round) → to_z w64 (of_z w64 c.rounding_of-round.result) ≡ rounding c.args.step.scale
-rounded c = rounding-back _ _ c.requires.0.formed.small_scale c.rounding_of-round.ensures
+rounded c = rounding-back _ _ c.args.step.small_scale c.rounding_of-round.ensures
 
 pub sum_taps-requires : goal.sum_taps-requires
 sum_taps-requires c =
-    let formed = c.requires.0.formed in record { width_bound = (c.requires.1, formed.few_taps, rw (rounded (goal.at.sum_taps-requires c).After-rounding_of-round) (omega (arith, rounding-most c.args.step.scale formed.small_scale))); taps_fit = λ t h. (formed.small_taps t (omega (arith, formed.few_taps)), c.requires.0.sources_inside t h) }
+    let step = c.args.step in record { width_bound = (c.requires.1, step.few_taps, rw (rounded (goal.at.sum_taps-requires c).After-rounding_of-round) (omega (arith, rounding-most c.args.step.scale step.small_scale))); taps_fit = λ t h. (step.small_taps t (omega (arith, step.few_taps)), c.requires.0.sources_inside t h) }
 
 -- what holds where lifting a line answers Ok
 if-ok : {P : Type 0} (r : Result (Unit {0}) OutOfRange) → is_ok r ≡ true → OnOk r P → P

@@ -1,10 +1,11 @@
-use mathlib.Core.Path.{◌≡◌}
+use mathlib.Core.Path.{◌≡◌, ◌∙◌}
 use Prim.Native.Nat.{◌<◌}
 use native.Mathlib.Decide.{dec_lt}
 use native.Mathlib.Omega.{arith}
 use lib.ListN.{get_or, take}
-use Rattle.std.proofs.lemmas.List.{get_or-take, length-take}
-use Rattle.filters.specs.declared.filter.LiftingStep.{LiftingStep}
+use Rattle.std.proofs.lemmas.List.{get_or_read, get_or-take, length-take}
+use Rattle.filters.specs.declared.step.LiftingStep.{LiftingStep}
+use Rattle.sweep.specs.Stages.{step_at}
 use Rattle.sweep.proofs.gaps.gap_of.Goals as goal
 use Rattle.sweep.proofs.gaps.gap_of.Goals.{In-loop-step}
 
@@ -12,18 +13,17 @@ use Rattle.sweep.proofs.gaps.gap_of.Goals.{In-loop-step}
 in-use : (c : In-loop-step) → c.loop-step.step-index < c.args.filter.count
 in-use c = omega (arith, c.loop-step-test.true, length-take c.args.filter.count c.args.filter.steps)
 
-same-step : (c : In-loop-step) (other : LiftingStep) → get_or (take c.args.filter.count c.args.filter.steps) c.loop-step.step-index other ≡ get_or c.args.filter.steps c.loop-step.step-index other
-same-step c other = get_or-take c.args.filter.count c.args.filter.steps c.loop-step.step-index other (in-use c)
-
-pub step_gap-requires : goal.step_gap-requires
-step_gap-requires c =
-    let at = (goal.at.step_gap-requires c).In-loop-step in
-    rw (same-step at _) (c.requires.each c.loop-step.step-index _ (in-use at))
+same-step :
+    (c : In-loop-step) (item : LiftingStep) → item ≡ get_or (take c.args.filter.count c.args.filter.steps) c.loop-step.step-index item
+    → item ≡ step_at c.args.filter c.loop-step.step-index
+same-step c item is =
+    get_or_read c.args.filter.steps c.loop-step.step-index item (omega (arith, in-use c, c.args.filter.there))
+    (is ∙ get_or-take c.args.filter.count c.args.filter.steps c.loop-step.step-index item (in-use c)) _
 
 pub loop-step-preserved : goal.loop-step-preserved
 loop-step-preserved c =
     let at = (goal.at.loop-step-preserved c).In-loop-step in
-    let here = rw (same-step at _) at c.step_gap.ensures in
+    let here = rw (same-step at _ c.step-item.is) at c.step_gap.ensures in
     let most = c.max-gap.ensures in (
       omega (arith, most, here.0, c.loop-step.invariant.0),
       λ j h. elim (dec_lt j c.loop-step.step-index) [
@@ -37,6 +37,6 @@ loop-step-preserved c =
 pub returns : goal.returns
 returns c =
     let all : c.args.filter.count ≡ c.loop-step.step-index =
-    omega (arith, c.loop-step-test.false, c.loop-step.auto.step-index-end, c.requires.there, length-take c.args.filter.count c.args.filter.steps)
+    omega (arith, c.loop-step-test.false, c.loop-step.auto.step-index-end, c.args.filter.there, length-take c.args.filter.count c.args.filter.steps)
     in
     (λ i h. c.loop-step.invariant.1 i (omega (arith, all, h)), c.loop-step.invariant.0)

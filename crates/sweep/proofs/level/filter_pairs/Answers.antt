@@ -30,7 +30,7 @@ module _ (c : In-loop-k) where
   inside = omega (arith, c.loop-k-test.true, c.requires.from_le_to.1)
 
   room : RoomFor c.args.level c.loop-k.samples
-  room finishes = let all = c.requires.frame_fits.2 finishes in (all.0, all.1, rw c.loop-k.auto.samples all.2)
+  room finishes = let all = c.requires.frame_fits.1 finishes in (all.0, all.1, rw c.loop-k.auto.samples all.2)
 
   kept : pair_fits c.args.level.frame c.args.filter c.loop-k.work c.loop-k.k ≡ pair_fits c.args.level.frame c.args.filter c.args.work.now c.loop-k.k
   kept = pair-fits-kept c.args.level c.args.filter c.args.work.now c.args.from c.loop-k.k inside c.loop-k.work placed put
@@ -38,7 +38,7 @@ module _ (c : In-loop-k) where
 pub filter_pair-requires : goal.filter_pair-requires
 filter_pair-requires c =
     let at = (goal.at.filter_pair-requires c).In-loop-k in
-    (placed at, c.requires.frame_fits.1, λ finishes. ((room at finishes).0, (room at finishes).2), inside at)
+    (placed at, λ finishes. ((room at finishes).0, (room at finishes).2), inside at)
 
 pub returns-in_err-filter_pair-clause-told : goal.returns-in_err-filter_pair-clause-told
 returns-in_err-filter_pair-clause-told c =

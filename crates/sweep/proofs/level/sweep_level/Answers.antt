@@ -21,13 +21,13 @@ use Rattle.sweep.proofs.level.sweep_level.Goals as goal
 use Rattle.sweep.proofs.level.sweep_level.Goals.{After-join-most, After-lift_turn, In-loop-turn, Start}
 
 pub overflow_add-lag : goal.overflow_add-lag
-overflow_add-lag c = omega (arith, c.requires.frame_fits.1.few)
+overflow_add-lag c = omega (arith, c.args.filter.few)
 
 -- the lag of the last stage is small
 small : (c : Start) → rows_lag c.args.level c.args.filter ≤ 20
 small c =
-    let few : c.args.filter.count + 1 ≤ 5 = omega (arith, c.requires.frame_fits.1.few) in
-    mul-le-mul few c.requires.frame_fits.3
+    let few : c.args.filter.count + 1 ≤ 5 = omega (arith, c.args.filter.few) in
+    mul-le-mul few c.requires.frame_fits.2
 
 pub overflow_mul-lag : goal.overflow_mul-lag
 overflow_mul-lag c = omega (arith, small (goal.at.overflow_mul-lag c).Start)
@@ -66,20 +66,20 @@ module _ (c : After-join-most) where
 
   bounded-banded : Bounded c.args.level.frame c.args.level.gap (reach_in c.args.level.frame c.args.filter c.loop-turn.turn 1) c.args.filter (suc c.join-most.result) banded
   bounded-banded =
-      turn-bounded c.args.level c.args.filter c.args.padded_width c.args.work.now c.args.coefficients.now c.requires.frame_fits.1
+      turn-bounded c.args.level c.args.filter c.args.padded_width c.args.work.now c.args.coefficients.now
       c.loop-turn.most c.loop-turn.turn c.loop-turn.work c.loop-turn.samples c.loop-turn.invariant
       c.interleave_pairs-here.result c.join-most.result c.join-most.ensures banded bands-put
       (rw (c.came_to-from.ensures, c.came_to-to.ensures) at c.interleave_pairs-here.ensures.measured)
 
   swept-banded : Swept c.args.level.frame c.args.level.gap (reach_in c.args.level.frame c.args.filter c.loop-turn.turn 1) (level_pictures c.args.level c.args.filter c.args.padded_width c.args.work.now c.args.coefficients.now) banded
   swept-banded =
-      turn-swept c.args.level c.args.filter c.args.padded_width c.args.work.now c.args.coefficients.now c.requires.frame_fits.1
+      turn-swept c.args.level c.args.filter c.args.padded_width c.args.work.now c.args.coefficients.now
       c.loop-turn.most c.loop-turn.turn c.loop-turn.work c.loop-turn.samples c.loop-turn.invariant
       c.interleave_pairs-here.result c.join-most.result c.join-most.ensures banded bands-put
 
 pub lift_turn-requires : goal.lift_turn-requires
 lift_turn-requires c =
-    record { frame_fits = (placed-banded (goal.at.lift_turn-requires c).After-join-most, c.requires.frame_fits.1, c.requires.frame_fits.2, c.requires.frame_fits.3, omega (arith, few-turns (goal.at.lift_turn-requires c).In-loop-turn)); bounded_2 = bounded-banded (goal.at.lift_turn-requires c).After-join-most }
+    record { frame_fits = (placed-banded (goal.at.lift_turn-requires c).After-join-most, c.requires.frame_fits.1, c.requires.frame_fits.2, omega (arith, few-turns (goal.at.lift_turn-requires c).In-loop-turn)); bounded_2 = bounded-banded (goal.at.lift_turn-requires c).After-join-most }
 
 -- What the steps have told and left, once they have come to their pairs.
 module _ (c : After-lift_turn) where
@@ -99,43 +99,43 @@ module _ (c : After-lift_turn) where
   came = swept-banded c.before.before
 
   room : RoomFor c.args.level c.loop-turn.samples
-  room finishes = let all = c.requires.frame_fits.4 finishes in (all.0, all.1, rw c.loop-turn.auto.samples all.2)
+  room finishes = let all = c.requires.frame_fits.3 finishes in (all.0, all.1, rw c.loop-turn.auto.samples all.2)
 
 pub returns-in_err-lift_turn-clause-told : goal.returns-in_err-lift_turn-clause-told
 returns-in_err-lift_turn-clause-told c =
     let at = (goal.at.returns-in_err-lift_turn-clause-told c).After-lift_turn in
     let failed = err_from_is_err_and c.from_residual.result c.from_residual.ensures.1 in
     rw failed.1
-    (columns-fail c.args.level c.args.filter c.args.padded_width c.args.work.now c.args.coefficients.now c.requires.frame_fits.1
-    c.loop-turn.turn ((c.in_err-lift_turn.ensures.swept (pictures at) (stages-made c.args.level.frame c.args.filter _ _ _ c.requires.frame_fits.1) (came at)).0.1 refl))
+    (columns-fail c.args.level c.args.filter c.args.padded_width c.args.work.now c.args.coefficients.now
+    c.loop-turn.turn ((c.in_err-lift_turn.ensures.swept (pictures at) (stages-made c.args.level.frame c.args.filter _ _ _) (came at)).0.1 refl))
 
 pub filter_pairs-requires : goal.filter_pairs-requires
 filter_pairs-requires c =
     let at = (goal.at.filter_pairs-requires c).After-lift_turn in
     rw (c.came_to-first.ensures, c.came_to-end.ensures)
-    (record { frame_fits = (placed-lifted at, c.requires.frame_fits.1, room at); from_le_to = (omega arith, omega arith) })
+    (record { frame_fits = (placed-lifted at, room at); from_le_to = (omega arith, omega arith) })
 
 pub returns-in_err-filter_pairs-clause-told : goal.returns-in_err-filter_pairs-clause-told
 returns-in_err-filter_pairs-clause-told c =
     let at = (goal.at.returns-in_err-filter_pairs-clause-told c).After-lift_turn in
     let failed = err_from_is_err_and c.from_residual-in_err-filter_pairs.result c.from_residual-in_err-filter_pairs.ensures.1 in
-    let steps = c.in_ok-lift_turn.ensures.swept (pictures at) (stages-made c.args.level.frame c.args.filter _ _ _ c.requires.frame_fits.1) (came at) in
+    let steps = c.in_ok-lift_turn.ensures.swept (pictures at) (stages-made c.args.level.frame c.args.filter _ _ _) (came at) in
     let stopped = rw (c.came_to-first.ensures, c.came_to-end.ensures) at (c.in_err-filter_pairs.ensures.told.1 refl) in
     rw failed.1
-    (rows-fail c.args.level c.args.filter c.args.padded_width c.args.work.now c.args.coefficients.now c.requires.frame_fits.1 c.loop-turn.turn
+    (rows-fail c.args.level c.args.filter c.args.padded_width c.args.work.now c.args.coefficients.now c.loop-turn.turn
     (λ all.
     stopped
     (λ k begin end.
-    turn-rows c.args.level c.args.filter c.args.padded_width c.args.work.now c.args.coefficients.now c.requires.frame_fits.1
+    turn-rows c.args.level c.args.filter c.args.padded_width c.args.work.now c.args.coefficients.now
     c.loop-turn.most c.loop-turn.turn c.loop-turn.work c.loop-turn.samples c.loop-turn.invariant c.join-most.result (lifted at) (placed-lifted at) (steps.1 refl) k begin end
     ∙ all k begin end)))
 
 pub loop-turn-preserved : goal.loop-turn-preserved
 loop-turn-preserved c =
     let at = (goal.at.loop-turn-preserved c).After-lift_turn in
-    let steps = c.in_ok-lift_turn.ensures.swept (pictures at) (stages-made c.args.level.frame c.args.filter _ _ _ c.requires.frame_fits.1) (came at) in
+    let steps = c.in_ok-lift_turn.ensures.swept (pictures at) (stages-made c.args.level.frame c.args.filter _ _ _) (came at) in
     let rows = c.in_ok-filter_pairs.ensures in
-    progress-more c.args.level c.args.filter c.args.padded_width c.args.work.now c.args.coefficients.now c.requires.frame_fits.1
+    progress-more c.args.level c.args.filter c.args.padded_width c.args.work.now c.args.coefficients.now
     c.loop-turn.most c.loop-turn.turn c.loop-turn.work c.loop-turn.samples c.loop-turn.invariant c.join-most.result (lifted at) (placed-lifted at) (steps.1 refl)
     (c.in_ok-lift_turn.ensures.bounded refl) (steps.0.0 refl)
     (rw (c.came_to-first.ensures, c.came_to-end.ensures) at (rows.told.0 refl)) (room at) _ _
@@ -146,10 +146,10 @@ pub returns : goal.returns
 returns c =
     let level = c.args.level in
     let over : level.frame.band_rows + rows_lag level c.args.filter ≤ c.loop-turn.turn = omega (arith, c.loop-turn-test.false) in record {
-      told = level-fits level c.args.filter c.args.padded_width c.args.work.now c.args.coefficients.now c.requires.frame_fits.1
+      told = level-fits level c.args.filter c.args.padded_width c.args.work.now c.args.coefficients.now
           c.loop-turn.most c.loop-turn.turn c.loop-turn.work c.loop-turn.samples over c.loop-turn.invariant;
-      done = λ went. level-left level c.args.filter c.args.padded_width c.args.work.now c.args.coefficients.now c.requires.frame_fits.1
+      done = λ went. level-left level c.args.filter c.args.padded_width c.args.work.now c.args.coefficients.now
           c.loop-turn.most c.loop-turn.turn c.loop-turn.work c.loop-turn.samples over c.loop-turn.invariant;
-      finished = λ went finishes. level-finished level c.args.filter c.args.padded_width c.args.work.now c.args.coefficients.now c.requires.frame_fits.1
-          c.loop-turn.most c.loop-turn.turn c.loop-turn.work c.loop-turn.samples over c.loop-turn.invariant finishes (c.requires.frame_fits.4 finishes).1;
+      finished = λ went finishes. level-finished level c.args.filter c.args.padded_width c.args.work.now c.args.coefficients.now
+          c.loop-turn.most c.loop-turn.turn c.loop-turn.work c.loop-turn.samples over c.loop-turn.invariant finishes (c.requires.frame_fits.3 finishes).1;
     }

@@ -39,7 +39,7 @@ module _ (c : In_ok-filter_row_of) where
       → samples ≡ samples_left c.args.level c.args.filter c.args.k c.args.work.now c.args.samples.now
   both-kept true e samples second =
       let first = rw e at (c.in_ok-filter_row_of.ensures.finished refl) in
-      let narrow = (c.requires.2 e).0 in
+      let narrow = (c.requires.1 e).0 in
       rw e
       ((rw e at second)
       ∙ with_row-same (crop_of c.args.level) (2 * c.args.k + 1) _ _ _ (λ x within. second-made x (omega (arith, narrow, within)))

@@ -6,13 +6,13 @@ use Rattle.sweep.proofs.rows.filter_row_of.Goals as goal
 
 pub filter_row-requires : goal.filter_row-requires
 filter_row-requires c =
-    let placed = c.requires.1.0 in
-    (c.requires.0, (placed.columns_least, placed.columns_most, row_inside c.args.level.frame c.args.work.now c.args.work.now placed refl c.args.row c.requires.1.1))
+    let placed = c.requires.0.0 in
+    (placed.columns_least, placed.columns_most, row_inside c.args.level.frame c.args.work.now c.args.work.now placed refl c.args.row c.requires.0.1)
 
-pub finish_row-requires-clause-well_formed : goal.finish_row-requires-clause-well_formed
-finish_row-requires-clause-well_formed c =
-    let placed = c.requires.1.0 in
-    (c.requires.0, (placed.columns_least, placed.columns_most, row_inside c.args.level.frame c.args.work.now c.args.work.now placed refl c.args.row c.requires.1.1))
+pub finish_row-requires-clause-halves_inside : goal.finish_row-requires-clause-halves_inside
+finish_row-requires-clause-halves_inside c =
+    let placed = c.requires.0.0 in
+    (placed.columns_least, placed.columns_most, row_inside c.args.level.frame c.args.work.now c.args.work.now placed refl c.args.row c.requires.0.1)
 
 pub returns-clause-finished : goal.returns-clause-finished
 returns-clause-finished c went =

@@ -34,7 +34,7 @@ module _ (c : In-loop-k) where
 pub lift_row-requires : goal.lift_row-requires
 lift_row-requires c =
     record {
-      frame_fits = (placed (goal.at.lift_row-requires c).In-loop-k, c.requires.frame_fits.1, inside (goal.at.lift_row-requires c).In-loop-k, c.requires.frame_fits.2);
+      frame_fits = (placed (goal.at.lift_row-requires c).In-loop-k, inside (goal.at.lift_row-requires c).In-loop-k, c.requires.frame_fits.1);
       step_rows_within = within-kept c.args.frame c.args.step c.args.work.now c.args.from c.loop-k.k (inside (goal.at.lift_row-requires c).In-loop-k) c.loop-k.work (placed (goal.at.lift_row-requires c).In-loop-k) (put (goal.at.lift_row-requires c).In-loop-k)
           c.args.bounds (c.requires.from_le_to.2 c.loop-k.k c.loop-k.auto.k c.loop-k-test.true);
     }

@@ -93,7 +93,7 @@ returns-in_err-synthesise_levels-clause-told t c =
     let failed = err_from_is_err_and c.from_residual.result c.from_residual.ensures.1 in
     let bad = c.in_err-synthesise_levels.ensures.told in
     rw (failed.1, failed.2) (
-      fails-below c.args.extent c.args.filter c.args.coefficients.now c.args.work.now c.requires.planes.0 c.args.n c.requires.well_formed.1 (omega (arith, c.if-n-eq0.false))
+      fails-below c.args.extent c.args.filter c.args.coefficients.now c.args.work.now c.requires.planes.0 c.args.n c.requires.in_depth (omega (arith, c.if-n-eq0.false))
           _ bad.0 bad.1,
       bad.1,
     )
@@ -106,7 +106,7 @@ returns-in-Ok t c =
     let work = c.args.work.now in
     let g = c.requires.planes.0 in
     let n = c.args.n in
-    let deep = c.requires.well_formed.1 in
+    let deep = c.requires.in_depth in
     let some : suc (c.args.n - 1) ≡ c.args.n = omega (arith, c.if-n-eq0.false) in
     let good = c.in_ok-synthesise_levels.ensures.told in
     let stood = c.in_ok-synthesise_levels.ensures.done in
@@ -124,7 +124,7 @@ returns-in-Err-clause-told t c =
     let work = c.args.work.now in
     let g = c.requires.planes.0 in
     let n = c.args.n in
-    let deep = c.requires.well_formed.1 in
+    let deep = c.requires.in_depth in
     let some : suc (c.args.n - 1) ≡ c.args.n = omega (arith, c.if-n-eq0.false) in
     let good = c.in_ok-synthesise_levels.ensures.told in
     let stood = c.in_ok-synthesise_levels.ensures.done in

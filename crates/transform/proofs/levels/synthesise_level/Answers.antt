@@ -30,13 +30,10 @@ use Rattle.transform.proofs.levels.synthesise_level.Goals.{After-next_frame-fram
 pub next_frame-frame-requires : goal.next_frame-frame-requires
 next_frame-frame-requires c =
     let g = c.requires.planes.0 in
-    (g.depth_most, c.requires.well_formed.1, g.width_most, low-rows-most _ _ g, low-columns-most _ _ g)
-
-pub gap_of-gap-requires : goal.gap_of-gap-requires
-gap_of-gap-requires c = c.requires.well_formed.0
+    (g.depth_most, c.requires.in_depth, g.width_most, low-rows-most _ _ g, low-columns-most _ _ g)
 
 pub overflow_add-below : goal.overflow_add-below
-overflow_add-below c = omega (arith, c.requires.well_formed.1, c.requires.planes.0.depth_most)
+overflow_add-below c = omega (arith, c.requires.in_depth, c.requires.planes.0.depth_most)
 
 -- what the level's bands and the picture below make up, by the frame and by the contract
 module _ (c : After-next_frame-frame) where
@@ -56,7 +53,7 @@ module _ (c : After-next_frame-frame) where
   placed-here : FrameFits c.next_frame-frame.result start-work
   placed-here =
       let told = c.next_frame-frame.ensures in
-      placed _ _ c.requires.planes.0 c.args.below c.requires.well_formed.1 c.next_frame-frame.result told.0 told.1 told.2 start-work refl
+      placed _ _ c.requires.planes.0 c.args.below c.requires.in_depth c.next_frame-frame.result told.0 told.1 told.2 start-work refl
 
   -- the picture that the level starts from, for bands of these sizes and rows this far apart; whether its numbers fit, and the picture that it makes
   abbrev input : ℕ → ℕ → ℕ → Picture
@@ -75,7 +72,7 @@ module _ (c : After-next_frame-frame) where
       (c.args.extent.padded_width * 2 ^ (c.args.extent.depth - c.args.below))
   by-extent P holds =
       let told = c.next_frame-frame.ensures in
-      by-sizes _ _ c.requires.planes.0 c.args.below c.requires.well_formed.1 c.next_frame-frame.result told.0 told.1 told.2 P holds
+      by-sizes _ _ c.requires.planes.0 c.args.below c.requires.in_depth c.next_frame-frame.result told.0 told.1 told.2 P holds
 
   -- where the level is the component's, the samples lie inside its picture
   fewer : suc c.args.below ≡ c.args.extent.depth → (c.args.extent.width ≤ 2 * half) × (c.args.extent.height ≤ 2 * bands)
@@ -97,7 +94,6 @@ sweep_level-requires c =
     let gap = c.gap_of-gap.ensures in record {
       frame_fits = (
         placed-here at,
-        c.requires.well_formed.0,
         gap.0,
         gap.1,
         rw c.then_some-crop.ensures
@@ -108,8 +104,8 @@ sweep_level-requires c =
             ((fewer at last).0, (fewer at last).1, c.requires.planes.2))),
       );
       bands_inside = (
-        rw told.2 (next-columns _ _ c.requires.planes.0 c.args.below c.requires.well_formed.1),
-        rw (told.1, c.requires.planes.1) (rows_whole _ _ c.requires.planes.0 c.args.below c.requires.well_formed.1),
+        rw told.2 (next-columns _ _ c.requires.planes.0 c.args.below c.requires.in_depth),
+        rw (told.1, c.requires.planes.1) (rows_whole _ _ c.requires.planes.0 c.args.below c.requires.in_depth),
       );
     }
 
@@ -133,8 +129,8 @@ returns c =
     let frame = c.next_frame-frame.result in
     let told = c.next_frame-frame.ensures in
     let placed = placed-here at in
-    let test = swept-told frame c.args.filter c.requires.well_formed.0 placed.rows_least placed.columns_least c.args.extent.padded_width (start-work at) c.args.coefficients.now in
-    let picture = swept-made frame c.args.filter c.requires.well_formed.0 placed.rows_least placed.columns_least c.args.extent.padded_width (start-work at) c.args.coefficients.now in
+    let test = swept-told frame c.args.filter placed.rows_least placed.columns_least c.args.extent.padded_width (start-work at) c.args.coefficients.now in
+    let picture = swept-made frame c.args.filter placed.rows_least placed.columns_least c.args.extent.padded_width (start-work at) c.args.coefficients.now in
     let swept = c.sweep_level.ensures in record {
       told = by-extent at (λ bh bw s s2. is_ok c.sweep_level.result ≡ fits at bh bw s2) (swept.told ∙ test);
       done = λ went. record {
@@ -151,7 +147,7 @@ returns c =
             (rw some at (swept.finished went)) refl row x r i ∙ picture (sym swept.told ∙ went) row x (omega (arith, inside.1)) (omega (arith, inside.0)));
         cleared = λ last.
             let some = rw (is_last _ _ last) at c.then_some-crop.ensures in
-            cleared-all _ _ c.requires.planes.0 c.args.below c.requires.well_formed.1 frame told.0 told.1 told.2 last c.sweep_level.new.work (start-work at)
+            cleared-all _ _ c.requires.planes.0 c.args.below c.requires.in_depth frame told.0 told.1 told.2 last c.sweep_level.new.work (start-work at)
             c.sweep_level.auto.work refl (λ row x r i. (rw some at (swept.done went)) row x r i);
       };
     }

