@@ -80,11 +80,11 @@ impl Slice {
     }
 }
 
-// The quantiser index of subband k, where the slice has an index.
+// The quantiser index of subband k, where the slice has an index. The picture is not copied for a matrix entry of each rectangle.
 #[tactic(auto, unfolding(crate::specs::Areas::subband_index))]
-pub fn subband_index(p: Picture, index: u32, k: usize) -> u32
+pub fn subband_index(p: &Picture, index: u32, k: usize) -> u32
     requires { k < 13 }
-    ensures { result ≡ subband_index p index k }
+    ensures { result ≡ subband_index p.now index k }
 {
     index.saturating_sub(p.matrix[k])
 }
@@ -95,5 +95,5 @@ pub fn indices_fit(p: Picture, index: u32) -> bool
     ensures { result ≡ indices_fit p index }
 {
     let count = subband_count(p.depth as usize);
-    (0..count).all(|k| subband_index(p, index, k) <= QUANTISER_MOST)
+    (0..count).all(|k| subband_index(&p, index, k) <= QUANTISER_MOST)
 }

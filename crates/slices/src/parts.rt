@@ -87,7 +87,7 @@ pub fn read_part(
             holder,
             area: slice.area_at(k),
             span,
-            decoder: tables.decoder(subband_index(p, part.index, k)),
+            decoder: tables.decoder(subband_index(&p, part.index, k)),
         };
         span.bit = read_area(planes, piece, bytes, run)?;
     }
