@@ -47,7 +47,8 @@ pub fn small_fit(q: Quantiser) -> bool
 }
 
 // The dequantised values of the sizes below 15, each above and below 0, where all of them fit a plane; where one does not, they are of no
-// use, and what stands there is free. The last two entries are free, too.
+// use, and what stands there is free. The last two entries are free, too. An Option would be asked at each window, where `small_fit` is asked
+// already, and slices have a table of 116 of these.
 pub fn small_values(q: Quantiser) -> [i32; 32]
     ensures { small_fit q ≡ true → Small (scale_of q) result }
 {

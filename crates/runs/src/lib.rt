@@ -82,6 +82,7 @@ pub fn read_run(
 }
 
 // Reads a value or more: many at once where small values fit, by the next bits, with ones for those past the end; one value where none ends in them.
+// As in coefficients::values, but that a window is there always, and ends with the part.
 fn read_some(
     run: &mut [i32],
     placing: SideBySide,

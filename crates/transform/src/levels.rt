@@ -26,8 +26,8 @@ pub struct Extent {
 }
 
 // Builds the picture of depth n on the picture of depth n − 1, in the work plane; at the component's depth its first rows and columns in the
-// samples, and then the work plane is all zeros. An error is the first level that assigns a number outside 32 bits; then the numbers of both planes
-// are of no use.
+// samples, and then the work plane is all zeros. An error is the first level that assigns a number outside 32 bits, which is the job's place; then the
+// numbers of both planes are of no use.
 pub fn synthesise_levels(
     work: &mut [i32],
     samples: &mut [i32],

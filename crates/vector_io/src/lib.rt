@@ -17,6 +17,7 @@ pub const LINE_ROOM: usize = 4096;
 pub const ROW_ROOM: usize = 65536;
 
 // The number of two bytes, the high one first.
+// As in contents::bytes, which reads a recording and is not asked here; each is one call of the library.
 pub fn two_bytes(high: u8, low: u8) -> u32
     ensures { (result ≡ high * 256 + low) × (result < 65536) }
 {
