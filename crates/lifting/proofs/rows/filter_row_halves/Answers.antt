@@ -16,8 +16,7 @@ filter_halves-requires c =
     let within =
     halves-measured c.args.half c.args.start c.args.work.now c.args.halves.now c.copy_measured.new.plane c.copy_measured-2.new.plane c.requires.1.1 (omega arith)
     c.copy_measured.ensures.copied c.copy_measured-2.ensures.copied c.copy_measured.result c.copy_measured-2.result c.copy_measured.ensures.measured c.copy_measured-2.ensures.measured
-    in rw (c.from-low_most.ensures, c.from-high_most.ensures)
-    (record { le_half = (c.requires.1.0, c.requires.1.1, c.requires.0); halves_within = (omega (arith, c.copy_measured.type_inv), omega (arith, c.copy_measured-2.type_inv), within.0, within.1) })
+    in record { le_half = (c.requires.1.0, c.requires.1.1, c.requires.0); halves_within = (omega (arith, c.from-low_most.ensures, c.copy_measured.type_inv), omega (arith, c.from-high_most.ensures, c.copy_measured-2.type_inv), rw (← c.from-low_most.ensures) at within.0, rw (← c.from-high_most.ensures) at within.1) }
 
 -- the buffer holds the row's halves
 copied :
