@@ -88,8 +88,8 @@ fn filter_row_halves(
     ensures done { is_ok result ≡ true → (x : ℕ) → x < 2 * half → interleaved halves.new x
         ≡ row_after half (filter_from filter) (half_line half start work.now) x }
 {
-    let low_most = copy_measured(halves, 4, work, start, half) as u64;
-    let high_most = copy_measured(halves, 2060, work, start + half, half) as u64;
+    let low_most = u64::from(copy_measured(halves, 4, work, start, half));
+    let high_most = u64::from(copy_measured(halves, 2060, work, start + half, half));
     let bounds = Bounds {
         even: low_most + 1,
         odd: high_most + 1,

@@ -69,13 +69,10 @@ pub fn lift_exactly(
     requires { LineInside step starts.now plane.old start width }
     ensures { LineLifted step starts.now start width plane.old (is_ok result) plane.new }
 {
-    let mut done = 0;
-    // Part by part, of which the last may be shorter.
-    while done < width {
+    for done in (0..width).step_by(256) {
         let part = (width - done).min(256);
         let part_starts = moved_by(starts, step.count, done);
         lift_part(plane, start + done, part, &part_starts, step)?;
-        done += part;
     }
     Ok(())
 }

@@ -53,9 +53,7 @@ pub fn sweep_level(
     let lag = (filter.count + 1) * level.gap;
     let last = level.frame.band_rows + lag;
     let mut most = 0u32;
-    let mut turn = 0;
-    // Turn by turn, of so many pairs each.
-    while turn < last {
+    for turn in (0..last).step_by(TURN_PAIRS) {
         let frame = level.frame;
         let pairs = frame.band_rows;
         let from = came_to(pairs, 0, turn);
@@ -66,7 +64,6 @@ pub fn sweep_level(
         let first = came_to(pairs, lag, turn);
         let end = came_to(pairs, lag, turn + TURN_PAIRS);
         filter_pairs(work, samples, halves, level, filter, first, end)?;
-        turn += TURN_PAIRS;
     }
     Ok(())
 }

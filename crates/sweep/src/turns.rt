@@ -43,7 +43,7 @@ pub fn lift_turn(
         → Tells (is_ok result) (TurnFits frame filter gap turn stages)
         × (is_ok result ≡ true → Swept frame gap (reach_in frame filter turn (suc filter.count)) stages work.new) }
 {
-    let size = most as u64 + 1;
+    let size = u64::from(most) + 1;
     let mut bounds = Bounds {
         even: size,
         odd: size,

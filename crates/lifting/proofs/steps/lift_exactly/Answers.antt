@@ -6,6 +6,7 @@ use Prim.Native.Nat.{ℕ, ◌+◌, ◌≤◌}
 use native.Mathlib.Omega.{arith}
 use Rattle.std.proofs.lemmas.Result.{err_from_is_err_and}
 use Rattle.base.specs.Every.{all_below}
+use Rattle.base.specs.Fill.{fill}
 use Rattle.base.specs.Range.{fits32}
 use Rattle.base.proofs.EveryLaws.{all_none, all-part, all_append}
 use Rattle.base.proofs.FillLaws.{fill_none}
@@ -35,9 +36,6 @@ module _ (c : After-moved_by-part_starts) where
 
   within : c.loop-done.done + part ≤ c.args.width
   within = omega (arith, c.loop-done.invariant.0, c.min-part.ensures)
-
-  some : 1 ≤ part
-  some = omega (arith, c.min-part.ensures, c.loop-done-test.true)
 
 pub lift_part-requires : goal.lift_part-requires
 lift_part-requires c = (
@@ -73,26 +71,34 @@ returns-in_err-lift_part c =
     rw failed.1
     (record { told = part-fails (new at) c.args.width c.loop-done.done (part at) (within at) (sym (told at _ _ c.in_err-lift_part.ensures)); done = λ wrong. absurd (false≢true wrong) })
 
-pub overflow_add-done : goal.overflow_add-done
-overflow_add-done c =
-    omega (arith, within (goal.at.overflow_add-done c).After-moved_by-part_starts, c.requires.width_most)
-
-pub loop-done-smaller : goal.loop-done-smaller
-loop-done-smaller c =
-    omega (arith, some (goal.at.loop-done-smaller c).After-moved_by-part_starts, within (goal.at.loop-done-smaller c).After-moved_by-part_starts)
+-- What stands once a part is lifted: as much of the line as is lifted then, and that it fits.
+module _ (c : After-moved_by-part_starts) where
+  more :
+      (plane' : List ℤ) → LineLifted c.args.step c.moved_by-part_starts.result (c.args.start + c.loop-done.done) (part c) c.loop-done.plane true plane'
+      → (plane' ≡ fill c.args.plane.now c.args.start (c.loop-done.done + part c) (line_new c.args.step c.args.starts.now c.args.plane.now c.args.start))
+      × (all_below (c.loop-done.done + part c) (new c) ≡ true)
+  more plane' lifted = (
+    part-done c.args.step c.args.starts.now c.args.plane.now c.args.start c.args.width c.requires c.loop-done.done c.loop-done.plane c.loop-done.invariant.2
+        c.moved_by-part_starts.result c.moved_by-part_starts.ensures (part c) (within c) _ _ lifted refl,
+    all_append (new c) c.loop-done.done (part c) c.loop-done.invariant.3 (sym (told c _ _ lifted)),
+  )
 
 pub loop-done-preserved : goal.loop-done-preserved
 loop-done-preserved c =
-    let at = (goal.at.loop-done-preserved c).After-moved_by-part_starts in (
-      within at,
-      c.lift_part.auto.plane ∙ c.loop-done.invariant.1,
-      part-done c.args.step c.args.starts.now c.args.plane.now c.args.start c.args.width c.requires c.loop-done.done c.loop-done.plane c.loop-done.invariant.2
-          c.moved_by-part_starts.result c.moved_by-part_starts.ensures (part at) (within at) _ _ c.in_ok-lift_part.ensures refl,
-      all_append (new at) c.loop-done.done (part at) c.loop-done.invariant.3 (sym (told at _ _ c.in_ok-lift_part.ensures)),
-    )
+    let at = (goal.at.loop-done-preserved c).After-moved_by-part_starts in
+    let next : c.loop-done.done + part at ≡ c.loop-done.done + 256 = omega (arith, c.min-part.ensures) in
+    let after = rw next at (more at _ c.in_ok-lift_part.ensures) in
+    (omega (arith, within at, next), c.lift_part.auto.plane ∙ c.loop-done.invariant.1, after.0, after.1)
 
 pub shape_of-plane : goal.shape_of-plane
 shape_of-plane c = c.loop-done.invariant.1
+
+pub returns-in_ok-lift_part : goal.returns-in_ok-lift_part
+returns-in_ok-lift_part c =
+    let at = (goal.at.returns-in_ok-lift_part c).After-moved_by-part_starts in
+    let all : c.loop-done.done + part at ≡ c.args.width = omega (arith, c.min-part.ensures) in
+    let after = rw all at (more at _ c.in_ok-lift_part.ensures) in
+    record { told = sym after.1; done = λ went. after.0 }
 
 pub returns : goal.returns
 returns c =

@@ -15,10 +15,10 @@ use Rattle.sweep.specs.Stages.{Swept, came_to, reach_in}
 use Rattle.sweep.specs.Turns.{Bounded}
 use Rattle.sweep.specs.LastStage.{finishes, rows_lag}
 use Rattle.sweep.specs.Levels.{RoomFor}
-use Rattle.sweep.proofs.LevelsLaws.{level_pictures, progress-none, turn-bounded, turn-swept, turn-rows, progress-more, columns-fail, rows-fail, level-fits, level-left, level-finished}
+use Rattle.sweep.proofs.LevelsLaws.{Progress, level_pictures, progress-none, turn-bounded, turn-swept, turn-rows, progress-more, columns-fail, rows-fail, level-fits, level-left, level-finished}
 use Rattle.sweep.proofs.StagesLaws.{stages-made}
 use Rattle.sweep.proofs.level.sweep_level.Goals as goal
-use Rattle.sweep.proofs.level.sweep_level.Goals.{After-join-most, After-lift_turn, In-loop-turn, Start}
+use Rattle.sweep.proofs.level.sweep_level.Goals.{After-join-most, After-lift_turn, In-loop-turn, In_ok-filter_pairs, Start}
 
 pub overflow_add-lag : goal.overflow_add-lag
 overflow_add-lag c = omega (arith, c.requires.frame_fits.1.few)
@@ -130,9 +130,13 @@ returns-in_err-filter_pairs-clause-told c =
     c.loop-turn.most c.loop-turn.turn c.loop-turn.work c.loop-turn.samples c.loop-turn.invariant c.join-most.result (lifted at) (placed-lifted at) (steps.1 refl) k begin end
     ∙ all k begin end)))
 
-pub loop-turn-preserved : goal.loop-turn-preserved
-loop-turn-preserved c =
-    let at = (goal.at.loop-turn-preserved c).After-lift_turn in
+-- What stands once the rows of a turn's pairs are filtered.
+turned :
+    (c : In_ok-filter_pairs)
+    → Progress c.args.level c.args.filter c.args.padded_width c.args.work.now c.args.coefficients.now
+    c.join-most.result (c.loop-turn.turn + 8) c.filter_pairs.new.work c.filter_pairs.new.samples
+turned c =
+    let at : After-lift_turn = c.before.before.before.before.before.before.before.before.before.before.before.before.before in
     let steps = c.in_ok-lift_turn.ensures.swept (pictures at) (stages-made c.args.level.frame c.args.filter _ _ _ c.requires.frame_fits.1) (came at) in
     let rows = c.in_ok-filter_pairs.ensures in
     progress-more c.args.level c.args.filter c.args.padded_width c.args.work.now c.args.coefficients.now c.requires.frame_fits.1
@@ -141,6 +145,20 @@ loop-turn-preserved c =
     (rw (c.came_to-first.ensures, c.came_to-end.ensures) at (rows.told.0 refl)) (room at) _ _
     (rw (c.came_to-first.ensures, c.came_to-end.ensures) at (rows.done refl))
     (λ finishes. rw (c.came_to-first.ensures, c.came_to-end.ensures) at (rows.finished refl finishes))
+
+pub loop-turn-preserved : goal.loop-turn-preserved
+loop-turn-preserved c = turned (goal.at.loop-turn-preserved c).In_ok-filter_pairs
+
+pub returns-in_ok-filter_pairs : goal.returns-in_ok-filter_pairs
+returns-in_ok-filter_pairs c =
+    let level = c.args.level in
+    let all = turned (goal.at.returns-in_ok-filter_pairs c).In_ok-filter_pairs in
+    let over : level.frame.band_rows + rows_lag level c.args.filter ≤ c.loop-turn.turn + 8 = omega arith in record {
+      told = level-fits level c.args.filter c.args.padded_width c.args.work.now c.args.coefficients.now c.requires.frame_fits.1 _ _ _ _ over all;
+      done = λ went. level-left level c.args.filter c.args.padded_width c.args.work.now c.args.coefficients.now c.requires.frame_fits.1 _ _ _ _ over all;
+      finished = λ went finishes. level-finished level c.args.filter c.args.padded_width c.args.work.now c.args.coefficients.now c.requires.frame_fits.1
+          _ _ _ _ over all finishes (c.requires.frame_fits.4 finishes).1;
+    }
 
 pub returns : goal.returns
 returns c =

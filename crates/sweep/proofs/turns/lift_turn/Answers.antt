@@ -26,7 +26,7 @@ pub loop-i-init : goal.loop-i-init
 unfolding bounds_by
 loop-i-init c =
     let one : c.args.most + 1 ≡ suc c.args.most = omega arith in
-    (rw one refl, omega arith, omega arith, c.requires.bounded_2, λ stages made all. (λ n few. absurd (omega arith), all))
+    (rw (c.from-size.ensures, one) refl, omega arith, omega arith, c.requires.bounded_2, λ stages made all. (λ n few. absurd (omega arith), all))
 
 -- Step i of the filter, over the plane as it is at the head of a turn.
 module _ (c : In-loop-i) where
