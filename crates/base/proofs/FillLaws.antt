@@ -1,18 +1,19 @@
--- The laws of `fill`: one more store, more of them, lengths, what stands where, and a plane filled with zeros.
+-- The laws of `fill`: one more store, more of them, lengths, what stands where, and a part that is overwritten whole.
 -- Assumes nothing.
-use mathlib.Core.Path.{◌≡◌, refl, sym, ap, ◌∙◌, subst}
+use mathlib.Core.Path.{◌≡◌, refl, sym, ap, ◌∙◌}
 use mathlib.Core.Logic.{◌≢◌}
 use mathlib.Core.List.{List}
-use Prim.Native.Nat.{ℕ, zero, suc, ◌+◌, ◌<◌}
+use Prim.Native.Nat.{ℕ, zero, suc, ◌+◌, ◌-◌, ◌≤◌, ◌<◌}
 use native.Mathlib.Nat.{zero-add, add-zero, add-suc, add_assoc}
 use native.Mathlib.Numerals.{add-one}
 use native.Mathlib.Decide.{dec_lt}
 use native.Mathlib.Omega.{arith}
-use lib.IntN.{ℤ, pos}
-use lib.ListN.{length, get_or, set, replicate, length-set, length-replicate, get_or-replicate}
-use lib.Seq.{ext_get_or, get_or-set_same, get_or-set_other, set_comm}
+use lib.ListN.{length, get_or, set, length-set}
+use lib.Seq.{paste, get_or-set_same, get_or-set_other, set_comm}
+use borrow.Rule.Slice.PartMut.{put_mid}
+use Rattle.std.proofs.lemmas.List.Edits.{paste_none, paste_more}
+use Rattle.std.proofs.lemmas.Slice.{put_mid-paste}
 use Rattle.base.specs.Fill.{fill}
-use Rattle.base.specs.Lists.{zeros_like}
 
 module _ {ℓ} {A : Type ℓ} (l : List A) (d : ℕ) (f : ℕ → A) where
   -- nothing stored
@@ -73,12 +74,18 @@ unfolding fill
 fill-same l d f g zero same = refl
 fill-same l d f g (suc n) same = rw (fill-same l d f g n (λ k h. same k (omega arith)), same n (omega arith))
 
--- a plane filled with zeros from its start to its end
-pub fill-zeros : (l : List ℤ) → fill l 0 (length l) (λ k. pos 0) ≡ zeros_like l
-unfolding zeros_like
-fill-zeros l =
-    ext_get_or (pos 0) (fill l 0 (length l) (λ k. pos 0)) (replicate (length l) (pos 0))
-    (length-fill l 0 (λ k. pos 0) (length l) ∙ sym (length-replicate (length l) (pos 0)))
-    (λ i h.
-    let inside : i < length l = subst (λ (n : ℕ). i < n) (length-fill l 0 (λ k. pos 0) (length l)) h in
-    get_d-fill-start l (λ k. pos 0) (length l) i (pos 0) inside inside ∙ sym (get_or-replicate (length l) i (pos 0) (pos 0) inside))
+-- a part of a list, overwritten whole by another list
+module _ {A : Type 0} (l : List A) (d : ℕ) (s : List A) (e : A) where
+  fill-paste : (n : ℕ) → n ≤ length s → d + n ≤ length l → paste l d s n ≡ fill l d n (λ k. get_or s k e)
+  unfolding fill
+  fill-paste zero some room = sym (paste_none l d s)
+  fill-paste (suc n) some room =
+      let more : set (paste l d s n) (d + n) (get_or s n e) ≡ paste l d s (n + 1) = paste_more l d s n e (omega arith) (omega arith) in
+      rw add-one at (sym more)
+      ∙ ap (λ (m : List A). set m (d + n) (get_or s n e)) (fill-paste n (omega arith) (omega arith))
+
+  pub fill-part : (n : ℕ) (f : ℕ → A) → length s ≡ d + n - d → d + n ≤ length l → ((k : ℕ) → k < n → get_or s k e ≡ f k) → put_mid d (d + n - d) l s ≡ fill l d n f
+  fill-part n f whole room same =
+      put_mid-paste d (d + n - d) l s s n refl (omega arith) (omega arith)
+      ∙ fill-paste n (omega arith) room
+      ∙ fill-same l d (λ k. get_or s k e) f n same

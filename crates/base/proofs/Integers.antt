@@ -1,14 +1,13 @@
--- Laws of whole numbers: how large a sum, a difference or a product can be, and −1 − z.
+-- Laws of whole numbers: how large a sum, a difference or a product can be.
 -- Assumes nothing.
-use mathlib.Core.Path.{◌≡◌, refl, ap}
-use mathlib.Core.Bool.{true}
+use mathlib.Core.Path.{◌≡◌, refl}
 use Prim.Native.Nat.{ℕ, zero, suc, ◌+◌, ◌*◌, ◌≤◌, ◌<◌}
-use native.Mathlib.Nat.{zero-add, mul-le-mul}
+use native.Mathlib.Nat.{mul-le-mul}
 use native.Mathlib.Decide.{dec_lt}
 use native.Mathlib.Omega.{arith}
 use borrow.Author.Tests.{lt-ltb, le-ltb}
 use lib.IntN.{ℤ, pos, negsuc, neg_ℤ, nat_abs, ◌+ℤ◌, ◌-ℤ◌, ◌*ℤ◌, sub_ℕ, +ℤ_idl}
-use lib.Signed.{mag, lt_z}
+use lib.Signed.{mag}
 
 -- `mag` and the size differ by 1 at most
 pub mag-size : (z : ℤ) → mag z ≤ nat_abs z
@@ -53,14 +52,6 @@ size-mul (negsuc a) (negsuc b) = refl
 pub size-mul-most : (a b : ℤ) (m n : ℕ) → nat_abs a ≤ m → nat_abs b ≤ n → nat_abs (a *ℤ b) ≤ m * n
 size-mul-most a b m n ha hb = rw (size-mul a b) (mul-le-mul ha hb)
 
--- −1 − z, the number on the other side
-mirror-neg : (a : ℕ) → negsuc 0 -ℤ negsuc a ≡ pos a
-mirror-neg a = rw (le-ltb (suc a) 1 (omega arith)) (ap pos (omega arith))
-
-pub mirror-pos : (b : ℕ) → negsuc 0 -ℤ pos b ≡ negsuc b
-mirror-pos zero = refl
-mirror-pos (suc b) = ap negsuc (ap suc (zero-add b))
-
 -- 0 − n, and its size
 pub zero-less : (n : ℕ) → pos 0 -ℤ pos n ≡ neg_ℤ (pos n)
 zero-less n = +ℤ_idl (neg_ℤ (pos n))
@@ -68,8 +59,3 @@ zero-less n = +ℤ_idl (neg_ℤ (pos n))
 pub mag-minus : (n m : ℕ) → n < m → mag (neg_ℤ (pos n)) < m
 mag-minus zero m h = h
 mag-minus (suc n) m h = omega arith
-
--- the mirror of a number below 0
-pub mirror-below : (z : ℤ) → lt_z z (pos 0) ≡ true → negsuc 0 -ℤ z ≡ pos (mag z)
-mirror-below (pos n) e = cc (le-ltb n 0 (omega arith))
-mirror-below (negsuc a) e = mirror-neg a

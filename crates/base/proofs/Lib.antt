@@ -4,6 +4,7 @@ pub mod Booleans
 pub mod Integers
 pub mod Reciprocals
 pub mod RangeLaws
+pub mod RefusalsLaws
 pub mod FloorLaws
 pub mod WalkLaws
 pub mod FillLaws

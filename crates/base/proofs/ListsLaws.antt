@@ -7,7 +7,7 @@ use native.Mathlib.Omega.{arith}
 use borrow.Author.Count.{below_more}
 use lib.IntN.{ℤ, pos}
 use lib.ListN.{length, take, drop, get_or, set, replicate, length-take, length-drop}
-use lib.Seq.{get_or-set_same, get_or-set_other, take_all}
+use lib.Seq.{get_or-set_same, get_or-set_other}
 use Rattle.base.specs.Lists.{tabulate, zeros_like}
 
 -- a list made entry by entry
@@ -36,10 +36,7 @@ table_more l f e k v inside is sofar =
     (λ j before. get_or-set_other l k j v e (omega arith) ∙ sofar j before)
     (get_or-set_same l k v e inside ∙ is)
 
--- the part from an index to the end, and a part of so many entries
+-- a part of so many entries
 module _ {ℓ} {A : Type ℓ} (l : List A) where
-  pub part-all : (n : ℕ) → take (length l - n) (drop n l) ≡ drop n l
-  part-all n = take_all (length l - n) (drop n l) (omega (arith, length-drop n l))
-
   pub length_part : (from width : ℕ) → from + width ≤ length l → length (take (from + width - from) (drop from l)) ≡ width
   length_part from width h = simp (length-take, length-drop) (omega arith)

@@ -5,5 +5,6 @@ pub mod Sign
 pub mod Every
 pub mod Lists
 pub mod Walk
+pub mod Refusals
 -- The code's own forms
 pub mod Fill

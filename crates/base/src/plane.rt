@@ -7,11 +7,7 @@ ghost use Rattle.base.specs.Lists.{zeros_like};
 pub fn zero(plane: &mut [i32])
     ensures { plane.new ≡ zeros_like plane.old }
 {
-    let mut i = 0;
-    while i < plane.len() {
-        plane[i] = 0;
-        i += 1;
-    }
+    plane.fill(0);
 }
 
 // Puts n zeros into the plane, from an index on.
@@ -19,11 +15,7 @@ pub fn zero_part(plane: &mut [i32], index: usize, n: usize)
     requires { index + n ≤ length plane.old }
     ensures { plane.new ≡ fill plane.old index n (λ x. pos 0) }
 {
-    let mut x = 0;
-    while x < n {
-        plane[index + x] = 0;
-        x += 1;
-    }
+    plane[index..index + n].fill(0);
 }
 
 // Copies n entries of a plane, from one index on, into another plane, from another index on.
@@ -31,9 +23,5 @@ pub fn copy(plane: &mut [i32], index: usize, source: &[i32], from: usize, n: usi
     requires { (index + n ≤ length plane.old) × (from + n ≤ length source.now) }
     ensures { plane.new ≡ fill plane.old index n (λ x. get_or source.now (from + x) (pos 0)) }
 {
-    let mut x = 0;
-    while x < n {
-        plane[index + x] = source[from + x];
-        x += 1;
-    }
+    plane[index..index + n].copy_from_slice(&source[from..from + n]);
 }

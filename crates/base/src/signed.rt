@@ -1,24 +1,10 @@
 // Signed arithmetic: each function is one operation, with its meaning in whole numbers.
-ghost use Rattle.std.specs.Prelude.{◌≡◌, true, ◌<◌, ◌^◌, nat_abs, ◌+ℤ◌, ◌-ℤ◌, ◌*ℤ◌};
-ghost use Rattle.std.specs.Int.Signed.{mag};
+ghost use Rattle.std.specs.Prelude.{◌≡◌, true, ◌<◌, ◌^◌, is_ok, IfOk};
 ghost use Rattle.base.specs.Range.{fits32};
 ghost use Rattle.base.specs.Floor.{floor_div};
 ghost use Rattle.base.specs.Sign.{with_sign};
 
-// The number of a plane's entry, with room for sums.
-pub fn widen(x: i32) -> i64
-    ensures { result ≡ x }
-{
-    x as i64
-}
-
-// Whether the number fits signed 32 bits.
-#[tactic(auto, using(crate::proofs::RangeLaws::fits32_above, crate::proofs::RangeLaws::fits32_under))]
-pub fn fits_i32(x: i64) -> bool
-    ensures { result ≡ fits32 x }
-{
-    -2147483648 <= x && x <= 2147483647
-}
+use crate::status::OutOfRange;
 
 // The number as a plane's entry.
 pub fn narrow(x: i64) -> i32
@@ -28,43 +14,19 @@ pub fn narrow(x: i64) -> i32
     x as i32
 }
 
-// The sum, where it fits.
-pub fn add(a: i64, b: i64) -> i64
-    requires { mag (a +ℤ b) < 2 ^ 63 }
-    ensures { result ≡ a +ℤ b }
+// The same of any number: an error where it does not fit.
+pub fn try_narrow(x: i64) -> Result<i32, OutOfRange>
+    ensures told { is_ok result ≡ fits32 x }
+    ensures same { IfOk result (λ entry. entry ≡ x) }
 {
-    a + b
-}
-
-// The difference, where it fits.
-pub fn sub(a: i64, b: i64) -> i64
-    requires { mag (a -ℤ b) < 2 ^ 63 }
-    ensures { result ≡ a -ℤ b }
-{
-    a - b
-}
-
-// The product, where it fits.
-pub fn mul(a: i64, b: i64) -> i64
-    requires { mag (a *ℤ b) < 2 ^ 63 }
-    ensures { result ≡ a *ℤ b }
-{
-    a * b
-}
-
-// The number divided by 2^s, rounded down.
-pub fn shift_down(x: i64, s: u32) -> i64
-    requires { s < 64 }
-    ensures { result ≡ floor_div x (2 ^ s) }
-{
-    x >> s
+    Ok(i32::try_from(x)?)
 }
 
 // A third of the number, rounded down.
 pub fn third(x: i64) -> i64
     ensures { result ≡ floor_div x 3 }
 {
-    if x < 0 { -1 - (-1 - x) / 3 } else { x / 3 }
+    x.div_euclid(3)
 }
 
 // The number of a size and a sign.
@@ -74,15 +36,4 @@ pub fn with_sign(size: u64, minus: bool) -> i64
 {
     let n = size as i64;
     if minus { -n } else { n }
-}
-
-// A number without its sign.
-pub fn magnitude(number: i32) -> u64
-    ensures { result ≡ nat_abs number }
-{
-    if number < 0 {
-        (-1 - number) as u64 + 1
-    } else {
-        number as u64
-    }
 }

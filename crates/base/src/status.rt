@@ -1,29 +1,50 @@
-// Document 01, "Refusal numbers": the statuses that a job answers. 12, 13 and 14 are document 02's. 11 and 12 are given by the program alone, and
-// 11 is only ever text. 15 to 19 are kept for the change requests.
-pub const ACCEPTED: u32 = 0;
+// Document 01, "Refusal numbers": why a job refuses. 12, 13 and 14 are document 02's. 11 and 12 are given by the program alone, and 11 is only ever
+// text. 15 to 19 are kept for the change requests.
+ghost use Rattle.std.specs.Prelude.{◌≡◌};
+ghost use Rattle.base.specs.Refusals.{number_of};
 
-pub const SIZE_REFUSED: u32 = 1;
+use std::num::TryFromIntError;
 
-pub const DEPTH_REFUSED: u32 = 2;
+// A refusal, by what is wrong.
+#[derive(Clone, Copy, Debug, PartialEq, Eq)]
+pub enum Refusal {
+    Size = 1,
+    Depth = 2,
+    Wavelet = 3,
+    Codeblocks = 4,
+    Planes = 5,
+    BytesEndEarly = 6,
+    CodeTooLong = 7,
+    Quantiser = 8,
+    ValueOutOfRange = 9,
+    SynthesisOutOfRange = 10,
+    BytesLeftOver = 12,
+    Slices = 13,
+    LumaLength = 14,
+}
 
-pub const WAVELET_REFUSED: u32 = 3;
+impl Refusal {
+    // Its number.
+    pub fn number(self) -> u32
+        ensures { result ≡ number_of self }
+    {
+        self as u32
+    }
+}
 
-pub const CODEBLOCKS_REFUSED: u32 = 4;
+// A refusal while reading, and the bit at which it arose.
+#[derive(Clone, Copy, Debug, PartialEq, Eq)]
+pub struct Fault {
+    pub refusal: Refusal,
+    pub bit: usize,
+}
 
-pub const PLANE_REFUSED: u32 = 5;
+// A number came out outside signed 32 bits.
+#[derive(Clone, Copy, Debug, PartialEq, Eq)]
+pub struct OutOfRange;
 
-pub const BYTES_END_EARLY: u32 = 6;
-
-pub const CODE_TOO_LONG: u32 = 7;
-
-pub const QUANTISER_REFUSED: u32 = 8;
-
-pub const VALUE_OUT_OF_RANGE: u32 = 9;
-
-pub const SYNTHESIS_OUT_OF_RANGE: u32 = 10;
-
-pub const BYTES_LEFT_OVER: u32 = 12;
-
-pub const SLICES_REFUSED: u32 = 13;
-
-pub const LUMA_LENGTH_REFUSED: u32 = 14;
+impl From<TryFromIntError> for OutOfRange {
+    fn from(_wide: TryFromIntError) -> OutOfRange {
+        OutOfRange
+    }
+}

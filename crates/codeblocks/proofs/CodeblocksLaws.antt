@@ -15,13 +15,9 @@ use borrow.Author.Tests.{eq-eqb, ne_eqb}
 use Rattle.base.specs.Walk.{walk}
 use Rattle.base.proofs.WalkLaws.{walk-flat, walk-holds}
 use Rattle.component.specs.Subbands.{InSubband}
-use Rattle.exp_golomb.specs.Bits.{take_bit}
-use Rattle.exp_golomb.specs.declared.bits.Bit.TheVariants.{Taken}
+use Rattle.exp_golomb.specs.Bits.{Taken, take_bit}
 use Rattle.exp_golomb.proofs.BitsLaws.{stated-bit}
-use Rattle.coefficients.specs.Reading.{Run, goes_on, stops, going}
-use Rattle.coefficients.specs.Values.{after}
-use Rattle.coefficients.specs.declared.reading.Progress.{Progress}
-use Rattle.coefficients.specs.declared.reading.Progress.TheVariants.{At, Refused}
+use Rattle.coefficients.specs.Reading.{Progress, At, Refused, Run, goes_on, stops, going}
 use Rattle.coefficients.proofs.ReadingLaws.{Stays, rectangle-stays}
 use Rattle.rectangles.proofs.AreasLaws.{rectangle-keeps}
 use Rattle.codeblocks.specs.Codeblocks.{codeblock_area, on_flag, codeblock_values, codeblock, codeblocks}
@@ -86,7 +82,7 @@ module _ (bytes : List ℕ) (end origin : ℕ) (scale : ℕ → ℕ) (b : Codebl
         followed true next = here
         followed false next = each (goes_on next r.plane) here
 
-        flagged : count_of b ≢ 1 → (progress : Progress) → Q (block y x (after progress r.plane)).plane
+        flagged : count_of b ≢ 1 → (progress : Progress) → Q (block y x (record { progress = progress; plane = r.plane })).plane
         flagged several (At at) =
             stated-bit bytes end _ at (λ bit next taken. rw (block-flagged several y x at bit next r.plane taken) (followed (eqb bit 1) next))
         flagged several (Refused status bit) = rw (block-stays y x status bit r.plane) here

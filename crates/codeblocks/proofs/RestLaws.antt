@@ -8,16 +8,16 @@ use Prim.Native.Nat.{ℕ, suc, ◌-◌, ◌/◌, ◌%◌, ◌≤◌, ◌<◌}
 use native.Mathlib.Omega.{arith}
 use lib.Dec.{eqb}
 use lib.IntN.{ℤ}
+use Rattle.std.specs.Prelude.{Result, Ok, Err}
+use Rattle.base.specs.Refusals.{number_of}
 use Rattle.base.specs.Walk.{walk}
+use Rattle.base.specs.declared.status.Fault.{Fault}
 use Rattle.base.proofs.WalkLaws.{walk_first, walk-past}
-use Rattle.exp_golomb.specs.Bits.{take_bit}
-use Rattle.exp_golomb.specs.declared.bits.Bit.TheVariants.{Taken}
+use Rattle.exp_golomb.specs.Bits.{Taken, take_bit}
 use Rattle.exp_golomb.proofs.BeginsLaws.{begins-itself}
 use Rattle.coefficients.specs.Reading.{Run, goes_on}
 use Rattle.coefficients.specs.Values.{after}
 use Rattle.coefficients.specs.declared.reading.Cursor.{Cursor}
-use Rattle.coefficients.specs.declared.reading.Progress.{Progress}
-use Rattle.coefficients.specs.declared.reading.Progress.TheVariants.{At, Refused}
 use Rattle.coefficients.proofs.ReadingLaws.{Stays, walk-keeps}
 use Rattle.rectangles.specs.Areas.{size_of, area_values}
 use Rattle.rectangles.proofs.AreasLaws.{area-whole, area-over, area-stays}
@@ -116,11 +116,11 @@ pub read-to-end : (bytes : List ℕ) (c : Cursor) (scale : ℕ → ℕ) (b : Cod
 read-to-end bytes c scale b from plane r last stated read =
     read.values bytes c.end (begins-itself c.stated bytes c.end) ∙ by r.progress refl
   where
-    by : (progress : Progress) → r.progress ≡ progress → rest_of_blocks bytes c.end c.origin scale b r.position (after r.progress last) ≡ after r.progress last
-    by (At next) told =
+    by : (progress : Result ℕ Fault) → r.progress ≡ progress → rest_of_blocks bytes c.end c.origin scale b r.position (after r.progress last) ≡ after r.progress last
+    by (Ok next) told =
         let over = read.over next told (read.full stated) in
         rest-none bytes c.end c.origin scale b r.position (after r.progress last) over.0 over.1
-    by (Refused status bit) told = rw told (rest-stays bytes c.end c.origin scale b r.position status bit last)
+    by (Err fault) told = rw told (rest-stays bytes c.end c.origin scale b r.position (number_of fault.refusal) fault.bit last)
 
 -- so from the start it is what `codeblocks` says
 pub blocks-whole : (bytes : List ℕ) (c : Cursor) (scale : ℕ → ℕ) (b : CodeblockGrid) (plane : List ℤ) (r : Reached) (last : List ℤ) →

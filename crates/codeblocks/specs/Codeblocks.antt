@@ -2,11 +2,8 @@
 use Rattle.std.specs.Prelude.{ℕ, suc, ◌+◌, ◌-◌, ◌*◌, true, cond, List, eqb, ℤ}
 use Rattle.base.specs.Walk.{walk}
 use Rattle.component.specs.Partition.{part_start}
-use Rattle.exp_golomb.specs.Bits.{take_bit}
-use Rattle.exp_golomb.specs.Codes.{status_of}
-use Rattle.exp_golomb.specs.declared.bits.Bit.{Bit}
-use Rattle.exp_golomb.specs.declared.bits.Bit.TheVariants.{Taken, Absent}
-use Rattle.exp_golomb.specs.declared.codes.Number.TheVariants.{Missing}
+use Rattle.exp_golomb.specs.Bits.{Bit, Taken, Absent, take_bit}
+use Rattle.exp_golomb.specs.Codes.{Missing, status_of}
 use Rattle.coefficients.specs.Reading.{Run, goes_on, stops, going, rectangle_values}
 use Rattle.coefficients.specs.declared.reading.Rectangle.{Rectangle}
 use Rattle.codeblocks.specs.declared.CodeblockGrid.{CodeblockGrid}

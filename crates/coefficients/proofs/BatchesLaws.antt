@@ -16,8 +16,7 @@ use lib.ListN.{length, get_or, set, length-set}
 use lib.Seq.{set-get_or}
 use Rattle.base.specs.Sign.{with_sign}
 use Rattle.exp_golomb.specs.Bits.{bit_at, present}
-use Rattle.exp_golomb.specs.Codes.{signed}
-use Rattle.exp_golomb.specs.declared.codes.Number.TheVariants.{Read}
+use Rattle.exp_golomb.specs.Codes.{Read, signed}
 use Rattle.lookups.specs.Windows.{Ahead}
 use Rattle.lookups.specs.Lookups.{Describes}
 use Rattle.lookups.specs.declared.Lookup.{Lookup}

@@ -2,85 +2,92 @@
 -- Assumes nothing.
 use mathlib.Core.Path.{◌≡◌, refl, sym, ap, ◌∙◌}
 use mathlib.Core.Bool.{Bool, true, false}
+use mathlib.Core.Logic.{◌≢◌}
 use mathlib.Core.List.{List}
 use Prim.Native.Nat.{ℕ, ◌+◌, ◌-◌, ◌≤◌, ◌<◌}
 use native.Mathlib.Omega.{arith}
 use lib.IntN.{ℤ, pos}
 use lib.ListN.{length, get_or, set}
+use Rattle.std.specs.Prelude.{Result, Ok, Err}
+use Rattle.std.proofs.lemmas.Bool.{true≢false}
 use Rattle.base.specs.Range.{fits32}
 use Rattle.base.specs.Sign.{with_sign}
+use Rattle.base.specs.declared.status.Fault.{Fault}
+use Rattle.base.specs.declared.status.Refusal.TheVariants.{BytesEndEarly, CodeTooLong}
 use Rattle.exp_golomb.specs.Begins.{Begins}
-use Rattle.exp_golomb.specs.Codes.{status_of, next_of, signed}
-use Rattle.exp_golomb.specs.declared.codes.Number.{Number}
-use Rattle.exp_golomb.specs.declared.codes.Number.TheVariants.{Read, Missing, TooLong}
+use Rattle.exp_golomb.specs.Codes.{Number, Read, Missing, TooLong, result_of, next_of, signed}
 use Rattle.exp_golomb.proofs.Extent.{signed-before, signed-short}
 use Rattle.exp_golomb.proofs.Moved.{signed-whole}
 use Rattle.exp_golomb.proofs.BeginsLaws.{signed-begins, begins-itself}
 use Rattle.lookups.specs.Windows.{Ahead}
 use Rattle.lookups.proofs.WindowsLaws.{ahead-begins}
-use Rattle.coefficients.specs.Reading.{Run, goes_on, store}
+use Rattle.coefficients.specs.Reading.{At, Refused, Run, goes_on, store}
 use Rattle.coefficients.specs.Scaling.{Small}
 use Rattle.coefficients.specs.Values.{after, entry, entries, index_of, Clear, Ready}
 use Rattle.coefficients.specs.Portions.{Sound, not_read, Reads}
 use Rattle.coefficients.specs.Batches.{ReadsAhead}
 use Rattle.coefficients.specs.declared.reading.Cursor.{Cursor}
 use Rattle.coefficients.specs.declared.reading.Portion.{Portion}
-use Rattle.coefficients.specs.declared.reading.Progress.{Progress}
-use Rattle.coefficients.specs.declared.reading.Progress.TheVariants.{At, Refused}
 use Rattle.coefficients.specs.declared.values.Batch.{Batch}
 use Rattle.coefficients.specs.declared.values.Layout.{Layout}
 use Rattle.coefficients.proofs.ReadingLaws.{store-fits, store_out, value-refused, value_read}
 use Rattle.coefficients.proofs.ValuesLaws.{entries_none, entries-one, entries-adds, entries-keep, index-grows}
 
--- what was refused does not go on, and what is true is not false
-pub refused-never : {P : Type 0} (progress : Progress) (status bit next : ℕ) → progress ≡ Refused status bit → progress ≡ At next → P
-refused-never progress status bit next e f =
-    let z : ◌≡◌ {A = ℕ} 0 1 = cc in
-    absurd (omega arith)
-
-pub true-never : {P : Type 0} → true ≡ false → P
-true-never e =
+-- what was refused does not go on
+pub refused-never : {A B P : Type 0} (answer : Result A B) (refused : B) (here : A) → answer ≡ Err refused → answer ≡ Ok here → P
+refused-never answer refused here e f =
     let z : ◌≡◌ {A = ℕ} 0 1 = cc in
     absurd (omega arith)
 
 -- where reading goes on after a value, it goes on after its number
-store-next : (origin : ℕ) (v : ℤ) (put : ℤ → List ℤ → List ℤ) (next : ℕ) (plane : List ℤ) (progress : Progress) (last : List ℤ) (bit : ℕ) →
-    after progress last ≡ store origin v put next plane → progress ≡ At bit → bit ≡ next
+store-next : (origin : ℕ) (v : ℤ) (put : ℤ → List ℤ → List ℤ) (next : ℕ) (plane : List ℤ) (progress : Result ℕ Fault) (last : List ℤ) (bit : ℕ) →
+    after progress last ≡ store origin v put next plane → progress ≡ Ok bit → bit ≡ next
 store-next origin v put next plane progress last bit stored on = by (fits32 v) refl
   where
+    told : (run : Run) → store origin v put next plane ≡ run → At bit ≡ run.progress
+    told run e = rw on at (ap (λ (r : Run). r.progress) (stored ∙ e))
+
     by : (fits : Bool) → fits32 v ≡ fits → bit ≡ next
     by true e =
-        let there : progress ≡ At next = ap (λ (r : Run). r.progress) (stored ∙ store-fits origin v put next plane e) in
-        let same : At bit ≡ At next = sym on ∙ there in
+        let same : At bit ≡ At next = told _ (store-fits origin v put next plane e) in
         cc
     by false e =
-        refused-never progress 9 (origin + next) bit (ap (λ (r : Run). r.progress) (stored ∙ store_out origin v put next plane e)) on
+        let other : At bit ≡ Refused 9 (origin + next) = told _ (store_out origin v put next plane e) in
+        let z : ◌≡◌ {A = ℕ} 0 1 = cc in
+        absurd (omega arith)
 
 -- a number ends no later than the data
-pub number-before : (bytes : List ℕ) (c : Cursor) (number : Number) → number ≡ signed bytes c.end c.stated c.bit → c.bit ≤ c.end → next_of number ≤ c.end
-number-before bytes c number is inside = rw is (signed-before bytes c.end c.stated c.bit inside)
+pub number-before : (bytes : List ℕ) (c : Cursor) → c.bit ≤ c.end → next_of (signed bytes c.end c.stated c.bit) ≤ c.end
+number-before bytes c inside = signed-before bytes c.end c.stated c.bit inside
 
 -- where no number was read: a bit is missing, or the code is too long
-pub not-read-short : (number : Number) (c : Cursor) → ((next : ℕ) → number ≡ TooLong next → ⊥) → record { count = 0; progress = At c.bit; short = true } ≡ not_read number c
+pub not-read-short : (number : Number) (fault : Fault) (c : Cursor) → Err fault ≡ result_of number → fault.refusal ≢ CodeTooLong →
+    record { count = 0; progress = Ok c.bit; short = true } ≡ not_read number c
 unfolding not_read
-not-read-short (Read size minus next) c other = refl
-not-read-short (Missing next) c other = refl
-not-read-short (TooLong next) c other = absurd (other next refl)
+not-read-short (Read size minus next) fault c is other = refl
+not-read-short (Missing next) fault c is other = refl
+not-read-short (TooLong next) fault c is other = absurd (other cc)
 
-pub not-read-long : (number : Number) (c : Cursor) (next status : ℕ) → number ≡ TooLong next → status ≡ status_of (TooLong next) →
-    record { count = 1; progress = Refused status (c.origin + next); short = false } ≡ not_read number c
+pub not-read-long : (number : Number) (fault : Fault) (c : Cursor) → Err fault ≡ result_of number → fault.refusal ≡ CodeTooLong →
+    record { count = 1; progress = Err (record { refusal = fault.refusal; bit = c.origin + fault.bit }); short = false } ≡ not_read number c
 unfolding not_read
-not-read-long number c next status e is = rw (is, e) refl
+not-read-long (Read size minus next) fault c is long = cc
+not-read-long (Missing next) fault c is long =
+    let never : BytesEndEarly ≡ CodeTooLong = cc in
+    cc
+not-read-long (TooLong next) fault c is long =
+    let same : fault ≡ record { refusal = CodeTooLong; bit = next } = cc in
+    rw same refl
 
 pub not-read-some : (number : Number) (c : Cursor) → ((not_read number c).count ≤ 1) × ((not_read number c).short ≡ false → 1 ≤ (not_read number c).count)
 unfolding not_read
-not-read-some (Read size minus next) c = (omega arith, λ e. true-never e)
-not-read-some (Missing next) c = (omega arith, λ e. true-never e)
+not-read-some (Read size minus next) c = (omega arith, λ e. absurd (true≢false e))
+not-read-some (Missing next) c = (omega arith, λ e. absurd (true≢false e))
 not-read-some (TooLong next) c = (omega arith, λ e. omega arith)
 
 -- one value, from the number that was read for it
 module _ (bytes : List ℕ) (c : Cursor) (scale index : ℕ → ℕ) (i : ℕ) (plane : List ℤ) (number : Number) (is : number ≡ signed bytes c.end c.stated c.bit) (inside : c.bit ≤ c.end) where
-  pub portion-stored : (size : ℕ) (minus : Bool) (next : ℕ) (progress : Progress) (last : List ℤ) → number ≡ Read size minus next →
+  pub portion-stored : (size : ℕ) (minus : Bool) (next : ℕ) (progress : Result ℕ Fault) (last : List ℤ) → number ≡ Read size minus next →
       after progress last ≡ store c.origin (with_sign (scale size) minus) (λ v l. set l (index i) v) next plane →
       Reads bytes c scale index i plane (record { count = 1; progress = progress; short = false }) last
   unfolding entry
@@ -93,13 +100,13 @@ module _ (bytes : List ℕ) (c : Cursor) (scale index : ℕ → ℕ) (i : ℕ) (
             ∙ sym stored;
         before_end = λ bit on.
             let there : bit ≡ next = store-next c.origin (with_sign (scale size) minus) (λ v l. set l (index i) v) next plane progress last bit stored on in
-            let close_to_end : next_of (Read size minus next) ≤ c.end = rw read at (number-before bytes c number is inside) in
+            let close_to_end : next_of (Read size minus next) ≤ c.end = rw (sym is ∙ read) at (number-before bytes c inside) in
             omega arith;
-        close_to_end = λ e. true-never (sym e);
+        close_to_end = λ e. absurd (true≢false (sym e));
         full = λ e. refl;
       }
 
-  portion-long : (next : ℕ) → number ≡ TooLong next → Reads bytes c scale index i plane (record { count = 1; progress = Refused 7 (c.origin + next); short = false }) plane
+  portion-long : (next : ℕ) → number ≡ TooLong next → Reads bytes c scale index i plane (record { count = 1; progress = Err (record { refusal = CodeTooLong; bit = c.origin + next }); short = false }) plane
   unfolding entry
   portion-long next read =
       record {
@@ -108,8 +115,8 @@ module _ (bytes : List ℕ) (c : Cursor) (scale index : ℕ → ℕ) (i : ℕ) (
             ∙ value-refused whole end c.origin scale (λ v l. set l (index i) v) c.bit plane (TooLong next)
             (sym (signed-begins c.stated bytes c.end whole end begins c.bit (TooLong next) (sym is ∙ read) tt))
             (λ size minus n e. let z : ◌≡◌ {A = ℕ} 0 1 = cc in omega arith);
-        before_end = λ bit on. refused-never (Refused 7 (c.origin + next)) 7 (c.origin + next) bit refl on;
-        close_to_end = λ e. true-never (sym e);
+        before_end = λ bit on. refused-never _ _ bit refl on;
+        close_to_end = λ e. absurd (true≢false (sym e));
         full = λ e. refl;
       }
 
@@ -119,7 +126,7 @@ module _ (bytes : List ℕ) (c : Cursor) (scale index : ℕ → ℕ) (i : ℕ) (
       let told : signed bytes c.end true c.bit ≡ Missing next = rw e at (sym is ∙ read) in
       rw told at (signed-whole bytes c.end c.bit)
 
-  portion-short : (next : ℕ) → number ≡ Missing next → Reads bytes c scale index i plane (record { count = 0; progress = At c.bit; short = true }) plane
+  portion-short : (next : ℕ) → number ≡ Missing next → Reads bytes c scale index i plane (record { count = 0; progress = Ok c.bit; short = true }) plane
   portion-short next read =
       record {
         values = λ whole end begins. entries_none whole end c.origin scale index i (goes_on c.bit plane);
@@ -141,7 +148,7 @@ module _ (bytes : List ℕ) (c : Cursor) (scale index : ℕ → ℕ) (i : ℕ) (
 -- values that were read at once by the bits ahead
 module _ (bytes : List ℕ) (c : Cursor) (scale index : ℕ → ℕ) (i w : ℕ) (small plane : List ℤ) (r : Batch) (last : List ℤ) (known : Small scale small) (ahead : Ahead bytes c.end w c.bit 56)
     (reads : ReadsAhead w small index i plane r last) where
-  pub portion-ahead : Reads bytes c scale index i plane (record { count = r.count; progress = At (c.bit + r.bits); short = false }) last
+  pub portion-ahead : Reads bytes c scale index i plane (record { count = r.count; progress = Ok (c.bit + r.bits); short = false }) last
   portion-ahead =
       record {
         values = λ whole end begins.
@@ -149,7 +156,7 @@ module _ (bytes : List ℕ) (c : Cursor) (scale index : ℕ → ℕ) (i w : ℕ)
         before_end = λ next on.
             let there : c.bit + r.bits ≡ next = cc in
             omega (arith, ahead.inside, reads.few);
-        close_to_end = λ e. true-never (sym e);
+        close_to_end = λ e. absurd (true≢false (sym e));
         full = λ e. refl;
       }
 
@@ -197,15 +204,6 @@ module _ (bytes : List ℕ) (c₀ : Cursor) (scale index : ℕ → ℕ) (i₀ : 
           close_to_end = λ e. rw follows.end_same at (reads.close_to_end (told e));
           full = full;
         }
-
-  pub portion-all : (n bit : ℕ) (plane : List ℤ) → bit ≤ c₀.end → Sofar n bit plane → Reads bytes c₀ scale index i₀ plane₀ (record { count = n; progress = At bit; short = false }) plane
-  portion-all n bit plane inside sofar =
-      record {
-        values = sofar;
-        before_end = λ next on. let there : bit ≡ next = cc in omega arith;
-        close_to_end = λ e. true-never (sym e);
-        full = λ e. refl;
-      }
 
   -- the entries of later values are as they were
   pub sofar-clear : (grows : (i j : ℕ) → i < j → index i < index j) (room n bit : ℕ) (plane : List ℤ) → Clear index i₀ room plane₀ → Sofar n bit plane →

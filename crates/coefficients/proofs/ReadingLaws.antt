@@ -12,12 +12,8 @@ use Rattle.base.specs.Range.{fits32}
 use Rattle.base.specs.Sign.{with_sign}
 use Rattle.base.specs.Walk.{walk}
 use Rattle.base.proofs.WalkLaws.{walk-stays}
-use Rattle.exp_golomb.specs.Codes.{status_of, next_of, signed}
-use Rattle.exp_golomb.specs.declared.codes.Number.{Number}
-use Rattle.exp_golomb.specs.declared.codes.Number.TheVariants.{Read, Missing, TooLong}
-use Rattle.coefficients.specs.Reading.{RunOf, Run, goes_on, stops, going, on_number, store, value, rectangle_values}
-use Rattle.coefficients.specs.declared.reading.Progress.{Progress}
-use Rattle.coefficients.specs.declared.reading.Progress.TheVariants.{At, Refused}
+use Rattle.exp_golomb.specs.Codes.{Number, Read, Missing, TooLong, status_of, next_of, signed}
+use Rattle.coefficients.specs.Reading.{Progress, At, Refused, RunOf, Run, goes_on, stops, going, on_number, store, value, rectangle_values}
 use Rattle.coefficients.specs.declared.reading.Rectangle.{Rectangle}
 
 -- A step that a refused run does not take.

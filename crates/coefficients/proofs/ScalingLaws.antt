@@ -16,7 +16,7 @@ use Rattle.base.proofs.RangeLaws.{below-fits32}
 use Rattle.base.proofs.Integers.{mag-minus}
 use Rattle.coefficients.specs.Quantiser.{scaled}
 use Rattle.coefficients.specs.Scaling.{scale_of, small_fit, small_value}
-use Rattle.coefficients.specs.declared.quantiser.Quantiser.{Quantiser}
+use Rattle.coefficients.specs.declared.reading.Quantiser.{Quantiser}
 
 -- the product of a size of 32 bits and a factor of 31
 pub product-most : (m factor : ℕ) → m < 2 ^ 32 → factor < 2 ^ 31 → m * factor ≤ (2 ^ 32 - 1) * (2 ^ 31 - 1)

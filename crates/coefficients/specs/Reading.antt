@@ -1,15 +1,23 @@
 -- Document 01, "Number codes" and "One subband": reading values. A run is how far reading has come, with what is filled: a plane, or several.
 -- Each thing that is read is one step from run to run, and a run that was refused stays as it is.
-use Rattle.std.specs.Prelude.{ℕ, ◌+◌, ◌*◌, Bool, true, cond, List, ℤ, set}
+use Rattle.std.specs.Prelude.{ℕ, ◌+◌, ◌*◌, Bool, true, cond, Result, Ok, Err, List, ℤ, set}
 use Rattle.base.specs.Range.{fits32}
 use Rattle.base.specs.Sign.{with_sign}
 use Rattle.base.specs.Walk.{walk}
-use Rattle.exp_golomb.specs.Codes.{status_of, signed}
-use Rattle.exp_golomb.specs.declared.codes.Number.{Number}
-use Rattle.exp_golomb.specs.declared.codes.Number.TheVariants.{Read, Missing, TooLong}
-use Rattle.coefficients.specs.declared.reading.Progress.{Progress}
-use Rattle.coefficients.specs.declared.reading.Progress.TheVariants.{At, Refused}
+use Rattle.base.specs.Refusals.{number_of}
+use Rattle.base.specs.declared.status.Fault.{Fault}
+use Rattle.exp_golomb.specs.Codes.{Number, Read, Missing, TooLong, status_of, signed}
 use Rattle.coefficients.specs.declared.reading.Rectangle.{Rectangle}
+
+-- On, at a bit of the data; or refused, with the refusal's number and the bit at which it arose, counted from the start of all the bytes.
+pub data Progress : Type 0 where
+  At : (bit : ℕ) → Progress
+  Refused : (status bit : ℕ) → Progress
+
+-- What the code answers, as progress: the bit, or its fault.
+abbrev pub progress_of : Result ℕ Fault → Progress
+progress_of (Ok bit) = At bit
+progress_of (Err fault) = Refused (number_of fault.refusal) fault.bit
 
 pub record RunOf (P : Type 0) : Type 0 where
   pub progress : Progress

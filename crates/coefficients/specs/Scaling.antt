@@ -3,16 +3,11 @@ use Rattle.std.specs.Prelude.{ℕ, ◌/◌, ◌%◌, ◌<◌, ◌^◌, ◌≡◌
 use Rattle.base.specs.Range.{fits32}
 use Rattle.base.specs.Sign.{with_sign}
 use Rattle.coefficients.specs.Quantiser.{scaled}
-use Rattle.coefficients.specs.declared.quantiser.Quantiser.{Quantiser}
+use Rattle.coefficients.specs.declared.reading.Quantiser.{Quantiser}
 
 -- What a quantiser makes of a size.
 abbrev pub scale_of : Quantiser → ℕ → ℕ
 scale_of q = scaled q.factor q.offset
-
--- Factor and offset are so small that every size of 32 bits has room in 63.
-pub record Bounded (q : Quantiser) : Type 0 where
-  pub factor_most : q.factor < 2 ^ 31
-  pub offset_most : q.offset < 2 ^ 31
 
 -- Every size below 15 becomes one that fits a plane.
 unfoldable pub small_fit : Quantiser → Bool

@@ -1,17 +1,13 @@
--- The code's own forms: values that go one after the other to entries of a plane, and what they are decoded by. No definition of the format
--- rests on them.
-use Rattle.std.specs.Prelude.{ℕ, ◌+◌, ◌*◌, ◌/◌, ◌≤◌, ◌<◌, ◌≡◌, true, List, ℤ, pos, length, get_or, set}
+-- The code's own forms: values that go one after the other to entries of a plane. No definition of the format rests on them.
+use Rattle.std.specs.Prelude.{ℕ, ◌+◌, ◌*◌, ◌/◌, ◌≤◌, ◌<◌, ◌≡◌, Result, List, ℤ, pos, length, get_or, set}
 use Rattle.base.specs.Walk.{walk}
-use Rattle.lookups.specs.Lookups.{KnowsCodes}
-use Rattle.coefficients.specs.Reading.{Run, value}
-use Rattle.coefficients.specs.Scaling.{scale_of, Bounded, small_fit, Small}
-use Rattle.coefficients.specs.declared.quantiser.Quantiser.{Quantiser}
-use Rattle.coefficients.specs.declared.reading.Progress.{Progress}
+use Rattle.base.specs.declared.status.Fault.{Fault}
+use Rattle.coefficients.specs.Reading.{Run, progress_of, value}
 use Rattle.coefficients.specs.declared.values.Layout.{Layout}
 
 -- What a call left: how far it came, and the plane.
-abbrev pub after : Progress → List ℤ → Run
-after progress plane = record { progress = progress; plane = plane }
+abbrev pub after : Result ℕ Fault → List ℤ → Run
+after result plane = record { progress = progress_of result; plane = plane }
 
 -- The entry of the plane that value i of a layout goes to.
 unfoldable pub index_of : Layout → ℕ → ℕ
@@ -36,9 +32,3 @@ pub record Ready (l : Layout) (i : ℕ) (plane : List ℤ) : Type 0 where
   pub counted : i ≤ l.count
   pub inside : (k : ℕ) → k < l.count → index_of l k < length plane
   pub clear : Clear (index_of l) i l.count plane
-
--- What values are decoded by: a quantiser, a table of codes, and the small values.
-pub record Decoding (q : Quantiser) (table : List ℕ) (small : List ℤ) : Type 0 where
-  pub bounded : Bounded q
-  pub knows : KnowsCodes table
-  pub small_values : small_fit q ≡ true → Small (scale_of q) small

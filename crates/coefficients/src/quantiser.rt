@@ -2,74 +2,63 @@
 ghost use Rattle.std.specs.Prelude.{◌≡◌, true, ◌≤◌, ◌<◌, ◌^◌};
 ghost use Rattle.coefficients.specs.Quantiser.{quant_factor, quant_offset, dequantise};
 ghost use Rattle.coefficients.specs.Factors.{KnowsFactors};
-ghost use Rattle.coefficients.specs.Scaling.{scale_of, Bounded, small_fit, Small};
+ghost use Rattle.coefficients.specs.Scaling.{scale_of, small_fit, Small};
 
 use crate::factors::FACTORS;
+use crate::reading::Quantiser;
 use base::signed;
-
-// What a size is dequantised by.
-#[derive(Clone, Copy)]
-pub struct Quantiser {
-    pub factor: u64,
-    pub offset: u64,
-}
 
 // The quantiser of an index, in a picture that is intra or not. Its numbers are free: whatever they are, sizes become what the index makes of
 // them in such a picture.
 pub fn quantiser_of(intra: bool, index: u32) -> Quantiser
     requires { index ≤ 115 }
-    ensures { (scale_of result ≡ dequantise intra index) × Bounded result }
+    ensures { scale_of result ≡ dequantise intra index }
 {
     let factor = quant_factor(index);
     let offset = quant_offset(intra, index, factor);
     Quantiser { factor, offset }
 }
 
-// The same, where the factors of all indices are at hand.
+// The same, where the factors of all indices are at hand: a caller with many indices has them made once, which is measured.
 pub fn quantiser_by(factors: &[u32; 116], intra: bool, index: u32) -> Quantiser
     requires { (index ≤ 115) × KnowsFactors factors.now }
-    ensures { (scale_of result ≡ dequantise intra index) × Bounded result }
+    ensures { scale_of result ≡ dequantise intra index }
 {
-    let factor = factors[index as usize] as u64;
+    let factor = u64::from(factors[index as usize]);
     let offset = quant_offset(intra, index, factor);
     Quantiser { factor, offset }
 }
 
 // A size that was read, dequantised.
 pub fn dequantised(q: Quantiser, size: u32) -> u64
-    requires { Bounded q }
     ensures { (result ≡ scale_of q size) × (result < 2 ^ 63) }
 {
     if size == 0 {
         return 0;
     }
-    let m = size as u64;
-    (m * q.factor + q.offset + 2) / 4
+    (u64::from(size) * q.factor + q.offset + 2) / 4
 }
 
 // Whether every size below 15, dequantised, fits a plane.
 pub fn small_fit(q: Quantiser) -> bool
-    requires { Bounded q }
     ensures { result ≡ small_fit q }
 {
     dequantised(q, 14) < 2147483648
 }
 
 // The dequantised values of the sizes below 15, each above and below 0, where all of them fit a plane; where one does not, they are of no
-// use, and what stands there is free. The last two entries are free, too.
+// use, and what stands there is free. The last two entries are free, too. An Option would be asked at each window, where `small_fit` is asked
+// already, and slices have a table of 116 of these.
 pub fn small_values(q: Quantiser) -> [i32; 32]
-    requires { Bounded q }
     ensures { small_fit q ≡ true → Small (scale_of q) result }
 {
     let mut small = [0; 32];
     if !small_fit(q) {
         return small;
     }
-    let mut k: usize = 0;
-    while k < 30 {
+    for k in 0..30 {
         let size = (k / 2) as u32;
         small[k] = signed::narrow(signed::with_sign(dequantised(q, size), k % 2 == 1));
-        k += 1;
     }
     small
 }
@@ -79,8 +68,7 @@ fn quant_factor(index: u32) -> u64
     requires { index ≤ 115 }
     ensures { result ≡ quant_factor index }
 {
-    let table = factor_table();
-    table[index as usize] as u64
+    u64::from(factor_table()[index as usize])
 }
 
 // The factors of all indices.

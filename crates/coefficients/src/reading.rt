@@ -1,14 +1,11 @@
-// What reading is about: how far it has come, where it stands in its data, and what it fills.
+// What reading is about: how far it has come, where it stands in its data, what it fills, and what sizes are dequantised by.
+ghost use Rattle.std.specs.Prelude.{◌<◌, ◌^◌};
 
-// On, at a bit of the data; or refused, with the refusal's number and the bit at which it arose, counted from the start of all the bytes.
-#[derive(Clone, Copy)]
-pub enum Progress {
-    At { bit: usize },
-    Refused { status: u32, bit: usize },
-}
+use base::status::Fault;
 
 // A position in data: the next bit, and the bit at which the data end. Past data of a stated length bits read as 1; other data are what is at
-// hand of longer ones. The data's first bit is bit `origin` of all the bytes.
+// hand of longer ones. The data's first bit is bit `origin` of all the bytes. That it stands within its data (`Sound`) is said by contracts, since the
+// definitions of what is read make cursors of plain numbers.
 #[derive(Clone, Copy)]
 pub struct Cursor {
     pub bit: usize,
@@ -17,11 +14,12 @@ pub struct Cursor {
     pub origin: usize,
 }
 
-// How many values were read, how far reading has come, and whether reading stopped for want of bits.
+// How many values were read, the bit that reading has come to or its refusal, and whether reading stopped for want of bits. A refusal's bit is
+// counted from the start of all the bytes. A portion that is short goes on at its bit as any other does, so this stands beside the bit.
 #[derive(Clone, Copy)]
 pub struct Portion {
     pub count: usize,
-    pub progress: Progress,
+    pub progress: Result<usize, Fault>,
     pub short: bool,
 }
 
@@ -32,4 +30,13 @@ pub struct Rectangle {
     pub stride: usize,
     pub width: usize,
     pub height: usize,
+}
+
+// What a size is dequantised by: so small that every size of 32 bits has room in 63.
+#[derive(Clone, Copy)]
+pub struct Quantiser {
+    pub factor: u64,
+    pub offset: u64,
+    pub ghost factor_small: { factor < 2 ^ 31 },
+    pub ghost offset_small: { offset < 2 ^ 31 },
 }

@@ -60,9 +60,6 @@ module _ (p : Parameters) where
       (padded-most p.depth (depth_most depth) p.width (width_most sizes))
       (padded-most p.depth (depth_most depth) p.height (height_most sizes))
 
-  pub samples-most : sizes_in_range p ≡ true → p.width * p.height ≤ 16777216
-  samples-most sizes = mul-le-mul (width_most sizes) (height_most sizes)
-
   -- samples are no more than coefficients
   pub samples-fewer : p.width * p.height ≤ area_of p
   unfolding area_of
@@ -70,19 +67,6 @@ module _ (p : Parameters) where
 
   -- an area within a bound
   module _ (most : ℕ) where
-    -- the tests of the code, one by one
-    pub sizes-refused : sizes_in_range p ≡ false → false ≡ area_within p most
-    unfolding area_within
-    sizes-refused wrong = rw wrong
-
-    pub depth-refused : sizes_in_range p ≡ true → depth_in_range p ≡ false → false ≡ area_within p most
-    unfolding area_within
-    depth-refused sizes deep = rw (sizes, deep)
-
-    pub area-decides : sizes_in_range p ≡ true → depth_in_range p ≡ true → leb (area_of p) most ≡ area_within p most
-    unfolding area_within
-    area-decides sizes depth = rw (sizes, depth)
-
     -- what parameters with such an area have passed
     module _ (within : area_within p most ≡ true) where
       both : sizes_in_range p && depth_in_range p ≡ true
@@ -145,32 +129,11 @@ chain-passed true true false false true e =
     record { sizes-pass = refl; depth-passes = refl; wavelet-passes = refl; codeblocks-pass = refl; planes-pass = refl }
 
 module _ (job : Job) (p : Parameters) (l : Lengths) where
-  -- each refusal, from the checks before it and its own
-  pub refused-1 : sizes_in_range p ≡ false → 1 ≡ refusal_of job p l
-  unfolding refusal_of
-  refused-1 s = rw s
-
-  pub refused-2 : sizes_in_range p ≡ true → depth_in_range p ≡ false → 2 ≡ refusal_of job p l
-  unfolding refusal_of
-  refused-2 s d = rw (s, d)
-
-  pub refused-3 : sizes_in_range p ≡ true → depth_in_range p ≡ true → transforms job && not (wavelet_in_range p) ≡ true → 3 ≡ refusal_of job p l
-  unfolding refusal_of
-  refused-3 s d w = rw (s, d, w)
-
-  pub refused-4 : sizes_in_range p ≡ true → depth_in_range p ≡ true → transforms job && not (wavelet_in_range p) ≡ false → unpacks job && not (codeblocks_in_range p) ≡ true → 4 ≡ refusal_of job p l
-  unfolding refusal_of
-  refused-4 s d w b = rw (s, d, w, b)
-
-  pub refused-5 : sizes_in_range p ≡ true → depth_in_range p ≡ true → transforms job && not (wavelet_in_range p) ≡ false → unpacks job && not (codeblocks_in_range p) ≡ false → planes_fit job p l ≡ false → 5 ≡ refusal_of job p l
-  unfolding refusal_of
-  refused-5 s d w b f = rw (s, d, w, b, f)
-
+  -- no refusal where every check passes, and the other way round
   pub refused_none : sizes_in_range p ≡ true → depth_in_range p ≡ true → transforms job && not (wavelet_in_range p) ≡ false → unpacks job && not (codeblocks_in_range p) ≡ false → planes_fit job p l ≡ true → 0 ≡ refusal_of job p l
   unfolding refusal_of
   refused_none s d w b f = rw (s, d, w, b, f)
 
-  -- no refusal: every check passed
   pub passed : refusal_of job p l ≡ 0 → ChecksPassed (sizes_in_range p) (depth_in_range p) (transforms job && not (wavelet_in_range p)) (unpacks job && not (codeblocks_in_range p)) (planes_fit job p l)
   unfolding refusal_of chain
   passed e = chain-passed _ _ _ _ _ e

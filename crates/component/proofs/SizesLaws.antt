@@ -1,11 +1,11 @@
 -- Laws of padded sizes and band sizes.
 -- Assumes nothing.
 use mathlib.Core.Path.{◌≡◌, refl, sym, ap, ◌∙◌}
-use mathlib.Core.Logic.{◌≢◌}
 use Prim.Native.Nat.{ℕ, zero, suc, ◌+◌, ◌-◌, ◌*◌, ◌/◌, ◌%◌, ◌^◌, ◌≤◌}
 use native.Mathlib.Nat.{mul_assoc, mul-le-mul_left, mul-div_cancel, pow-suc, le-div_iff_mul-le, lt-div-mul-add}
 use native.Mathlib.Omega.{arith}
 use lib.Pow.{pow_pos, pow_mono, pow-add}
+use Rattle.std.specs.Int.{next_multiple_of}
 use Rattle.component.specs.Sizes.{padded_size, band_size, size_at}
 
 -- what holds at each depth that is allowed
@@ -17,12 +17,16 @@ at-depths P p0 p1 p2 p3 p4 (suc (suc (suc zero))) h = p3
 at-depths P p0 p1 p2 p3 p4 (suc (suc (suc (suc zero)))) h = p4
 at-depths P p0 p1 p2 p3 p4 (suc (suc (suc (suc (suc n))))) h = absurd (omega arith)
 
--- 2^depth as the code computes it, and its bounds
+-- 2^depth as the code computes it
 pub power : (depth : ℕ) → depth ≤ 4 → (1 * 2 ^ depth) % 2 ^ 64 ≡ 2 ^ depth
 power = at-depths (λ d. (1 * 2 ^ d) % 2 ^ 64 ≡ 2 ^ d) refl refl refl refl refl
 
-pub power-bounds : (depth : ℕ) → depth ≤ 4 → (1 ≤ 2 ^ depth) × (2 ^ depth ≤ 16)
-power-bounds = at-depths (λ d. (1 ≤ 2 ^ d) × (2 ^ d ≤ 16)) (omega arith) (omega arith) (omega arith) (omega arith) (omega arith)
+-- a padded size is the next multiple of 2^depth
+pub padded-next : (depth : ℕ) → depth ≤ 4 → (size : ℕ) → next_multiple_of size (2 ^ depth) ≡ padded_size depth size
+unfolding padded_size
+padded-next =
+    at-depths (λ d. (size : ℕ) → next_multiple_of size (2 ^ d) ≡ padded_size d size)
+    (λ size. omega arith) (λ size. omega arith) (λ size. omega arith) (λ size. omega arith) (λ size. omega arith)
 
 -- a padded size is at least the size, and at most 4096 where the size is
 pub padded-least : (depth size : ℕ) → size ≤ padded_size depth size
@@ -34,14 +38,6 @@ unfolding padded_size
 padded-most =
     at-depths (λ d. (size : ℕ) → size ≤ 4096 → padded_size d size ≤ 4096)
     (λ size h. omega arith) (λ size h. omega arith) (λ size h. omega arith) (λ size h. omega arith) (λ size h. omega arith)
-
--- "level n from 1", as the code counts
-pub band-size-from-1 : (depth padded level : ℕ) → level ≢ 0 → padded / 2 ^ (depth + 1 - level) ≡ band_size depth padded level
-unfolding band_size
-band-size-from-1 depth padded zero h = absurd (h refl)
-band-size-from-1 depth padded (suc n) h =
-    let same : depth + 1 - suc n ≡ depth - n = omega arith in
-    rw same refl
 
 -- doubling n times multiplies by 2^n
 pub size_at-power : (size n : ℕ) → size_at size n ≡ size * 2 ^ n

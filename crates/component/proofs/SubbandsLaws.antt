@@ -1,8 +1,8 @@
 -- Laws of subbands: where each orientation_of starts.
 -- Assumes nothing.
-use mathlib.Core.Path.{◌≡◌, refl}
+use mathlib.Core.Path.{◌≡◌}
 use mathlib.Core.Logic.{◌≢◌}
-use Prim.Native.Nat.{ℕ, zero, suc, ◌+◌, ◌-◌, ◌*◌, ◌/◌, ◌%◌, ◌≤◌, ◌<◌}
+use Prim.Native.Nat.{ℕ, suc, ◌+◌, ◌-◌, ◌*◌, ◌/◌, ◌%◌, ◌≤◌, ◌<◌}
 use native.Mathlib.Decide.{ℕ_discrete}
 use native.Mathlib.Omega.{arith}
 use borrow.Author.Tests.{ne_eqb}
@@ -14,27 +14,6 @@ use Rattle.component.proofs.SizesLaws.{size_at-mono, size_at-padded, band-size_a
 pub detail : (k : ℕ) → k ≢ 0 → orientation_of k ≡ detail_of (k % 3)
 unfolding orientation_of
 detail k h = rw (ne_eqb k 0 h)
-
--- LH alone has details and starts at the left; HL alone at the top
-pub left-of-LH : (r w : ℕ) → r ≡ 2 → left_of (detail_of r) w ≡ 0
-unfolding left_of detail_of
-left-of-LH r w e = rw e
-
-pub left-of-others : (r w : ℕ) → r < 3 → r ≢ 2 → left_of (detail_of r) w ≡ w
-unfolding left_of detail_of
-left-of-others zero w h no2 = refl
-left-of-others (suc zero) w h no2 = refl
-left-of-others (suc (suc r)) w h no2 = absurd (omega arith)
-
-pub top-of-HL : (r h : ℕ) → r ≡ 1 → top_of (detail_of r) h ≡ 0
-unfolding top_of detail_of
-top-of-HL r h e = rw e
-
-pub top-of-others : (r h : ℕ) → r ≢ 1 → top_of (detail_of r) h ≡ h
-unfolding top_of detail_of
-top-of-others zero h no1 = refl
-top-of-others (suc zero) h no1 = absurd (no1 refl)
-top-of-others (suc (suc r)) h no1 = refl
 
 -- a subband starts no further than its own size from the left and from the top, and LL at both
 pub left-most : (o : Orientation) (w : ℕ) → left_of o w ≤ w

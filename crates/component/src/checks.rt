@@ -1,32 +1,35 @@
 // Document 01, "Refusal numbers": the checks behind refusals 1 to 5.
 ghost use Rattle.std.specs.Prelude.{◌≡◌, true, not, ◌&&◌};
+ghost use Rattle.base.specs.Refusals.{status_of};
 ghost use Rattle.component.specs.Checks.{in_range, unpacks, transforms, area_of, area_within, sizes_in_range, depth_in_range, wavelet_in_range, codeblocks_in_range, planes_fit, refusal_of};
 ghost use Rattle.component.specs.Sized.{Sized};
 
 use crate::parameters::{Job, Lengths, Parameters};
-use crate::sizes::{padded_height, padded_width};
-use base::{limits, status};
+use crate::sizes::padded_size;
+use base::limits;
+use base::status::Refusal;
 
-// The first of refusals 1 to 5 that applies to a job, in the order of their numbers, or 0.
-pub fn refusal(job: Job, p: Parameters, lengths: Lengths) -> u32
-    ensures { result ≡ refusal_of job p lengths }
+// The first of refusals 1 to 5 that applies to a job, in the order of their numbers.
+#[tactic(auto, unfolding(crate::specs::Checks::refusal_of))]
+pub fn check(job: Job, p: Parameters, lengths: Lengths) -> Result<(), Refusal>
+    ensures { status_of result ≡ refusal_of job p lengths }
 {
     if !sizes_in_range(p) {
-        return status::SIZE_REFUSED;
+        return Err(Refusal::Size);
     }
     if !depth_in_range(p) {
-        return status::DEPTH_REFUSED;
+        return Err(Refusal::Depth);
     }
     if wavelet_refused(job, p) {
-        return status::WAVELET_REFUSED;
+        return Err(Refusal::Wavelet);
     }
     if codeblocks_refused(job, p) {
-        return status::CODEBLOCKS_REFUSED;
+        return Err(Refusal::Codeblocks);
     }
     if !planes_fit(job, p, lengths) {
-        return status::PLANE_REFUSED;
+        return Err(Refusal::Planes);
     }
-    status::ACCEPTED
+    Ok(())
 }
 
 // Whether the number lies in a range, both ends included.
@@ -37,14 +40,11 @@ pub fn in_range(low: u32, high: u32, n: u32) -> bool
 }
 
 // Whether a job looks at the wavelet index and finds it out of range.
+#[tactic(auto, unfolding(crate::specs::Checks::wavelet_in_range))]
 fn wavelet_refused(job: Job, p: Parameters) -> bool
     ensures { result ≡ transforms job && not (wavelet_in_range p) }
 {
-    if transforms(job) {
-        !in_range(0, limits::WAVELET_MOST, p.wavelet)
-    } else {
-        false
-    }
+    job.transforms() && !in_range(0, limits::WAVELET_MOST, p.wavelet)
 }
 
 // Whether a job looks at the codeblock counts and finds one out of range.
@@ -52,36 +52,27 @@ fn codeblocks_refused(job: Job, p: Parameters) -> bool
     requires { depth_in_range p ≡ true }
     ensures { result ≡ unpacks job && not (codeblocks_in_range p) }
 {
-    if unpacks(job) {
-        !codeblocks_in_range(p)
-    } else {
-        false
-    }
+    job.unpacks() && !codeblocks_in_range(p)
 }
 
-// Whether a job reads bytes into coefficients.
-fn unpacks(job: Job) -> bool
-    ensures { result ≡ unpacks job }
-{
-    match job {
-        Job::Unpack => true,
-        Job::Synthesise => false,
-        Job::Decode => true,
+impl Job {
+    // Whether a job reads bytes into coefficients.
+    fn unpacks(self) -> bool
+        ensures { result ≡ unpacks self }
+    {
+        matches!(self, Job::Unpack | Job::Decode)
     }
-}
 
-// Whether a job makes samples of coefficients.
-fn transforms(job: Job) -> bool
-    ensures { result ≡ transforms job }
-{
-    match job {
-        Job::Unpack => false,
-        Job::Synthesise => true,
-        Job::Decode => true,
+    // Whether a job makes samples of coefficients.
+    fn transforms(self) -> bool
+        ensures { result ≡ transforms self }
+    {
+        matches!(self, Job::Synthesise | Job::Decode)
     }
 }
 
 // Whether width and height are in range.
+#[tactic(auto, unfolding(crate::specs::Checks::sizes_in_range))]
 pub fn sizes_in_range(p: Parameters) -> bool
     ensures { result ≡ sizes_in_range p }
 {
@@ -89,6 +80,7 @@ pub fn sizes_in_range(p: Parameters) -> bool
 }
 
 // Whether the depth is in range.
+#[tactic(auto, unfolding(crate::specs::Checks::depth_in_range))]
 fn depth_in_range(p: Parameters) -> bool
     ensures { result ≡ depth_in_range p }
 {
@@ -100,15 +92,10 @@ fn codeblocks_in_range(p: Parameters) -> bool
     requires { depth_in_range p ≡ true }
     ensures { result ≡ codeblocks_in_range p }
 {
-    let depth = p.depth as usize;
-    let across = p.codeblocks_across;
-    let down = p.codeblocks_down;
-    let mut level = 0;
-    while level <= depth {
-        if !counts_in_range(across[level], down[level]) {
+    for level in 0..=p.depth as usize {
+        if !counts_in_range(p.codeblocks_across[level], p.codeblocks_down[level]) {
             return false;
         }
-        level += 1;
     }
     true
 }
@@ -121,18 +108,15 @@ fn counts_in_range(across: u32, down: u32) -> bool
 }
 
 // Whether each plane of a job has exactly the length it needs.
+#[tactic(auto, unfolding(crate::specs::Checks::planes_fit))]
 fn planes_fit(job: Job, p: Parameters, lengths: Lengths) -> bool
     requires { Sized p }
     ensures { result ≡ planes_fit job p lengths }
 {
     let area = padded_area(p);
-    if lengths.coefficients != area {
-        return false;
-    }
-    if !transforms(job) {
-        return true;
-    }
-    lengths.work == area && lengths.samples == (p.width as usize) * (p.height as usize)
+    lengths.coefficients == area
+        && (!job.transforms()
+            || (lengths.work == area && lengths.samples == p.width as usize * p.height as usize))
 }
 
 // How many entries the coefficient plane has.
@@ -140,18 +124,14 @@ pub fn padded_area(p: Parameters) -> usize
     requires { Sized p }
     ensures { result ≡ area_of p }
 {
-    padded_width(p) * padded_height(p)
+    let depth = p.depth as usize;
+    padded_size(depth, p.width as usize) * padded_size(depth, p.height as usize)
 }
 
 // Whether parameters have a padded area, of at most so many entries.
+#[tactic(auto, unfolding(crate::specs::Checks::area_within))]
 pub fn area_within(p: Parameters, most: usize) -> bool
     ensures { result ≡ area_within p most }
 {
-    if !sizes_in_range(p) {
-        return false;
-    }
-    if !depth_in_range(p) {
-        return false;
-    }
-    padded_area(p) <= most
+    sizes_in_range(p) && depth_in_range(p) && padded_area(p) <= most
 }

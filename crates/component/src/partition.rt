@@ -4,6 +4,7 @@ ghost use Rattle.component.specs.Partition.{part_start};
 ghost use Rattle.component.specs.Reciprocal.{reciprocal_of};
 
 // Where part x starts, of a size divided into so many parts.
+#[tactic(auto, unfolding(crate::specs::Partition::part_start))]
 pub fn part_start(size: usize, count: usize, x: usize) -> usize
     requires { (size ≤ 4096) × (1 ≤ count) × (x ≤ 256) }
     ensures { result ≡ part_start size count x }
@@ -12,6 +13,7 @@ pub fn part_start(size: usize, count: usize, x: usize) -> usize
 }
 
 // What multiplies in place of a division by a count of parts.
+#[tactic(auto, unfolding(crate::specs::Reciprocal::reciprocal_of))]
 pub fn reciprocal_of(count: usize) -> usize
     requires { 1 ≤ count }
     ensures { result ≡ reciprocal_of count }

@@ -1,6 +1,6 @@
 // Document 01, "Sizes and the coefficient plane": the subbands in stream order.
 ghost use Rattle.std.specs.Prelude.{◌≡◌, ◌≤◌, ◌<◌};
-ghost use Rattle.component.specs.Subbands.{subband_count, orientation_of, left_of, top_of, subband_at};
+ghost use Rattle.component.specs.Subbands.{subband_count, subband_at};
 
 use crate::sizes::band_size;
 
@@ -23,6 +23,7 @@ pub fn subband_count(depth: usize) -> usize
 }
 
 // Subband k in stream order.
+#[tactic(auto, unfolding(crate::specs::Subbands::subband_at, crate::specs::Subbands::subband_level, crate::specs::Subbands::orientation_of, crate::specs::Subbands::detail_of, crate::specs::Subbands::left_of, crate::specs::Subbands::top_of))]
 pub fn subband_at(depth: usize, padded_width: usize, padded_height: usize, k: usize) -> Subband
     requires { (depth ≤ 4) × (k < subband_count depth) }
     ensures { result ≡ subband_at depth padded_width padded_height k }
@@ -30,31 +31,18 @@ pub fn subband_at(depth: usize, padded_width: usize, padded_height: usize, k: us
     let level = (k + 2) / 3;
     let width = band_size(depth, padded_width, level);
     let height = band_size(depth, padded_height, level);
+    // LL, HL, LH, HH
+    let (left, top) = match (k, k % 3) {
+        (0, _) => (0, 0),
+        (_, 1) => (width, 0),
+        (_, 2) => (0, height),
+        _ => (width, height),
+    };
     Subband {
         level,
-        left: left_of(k, width),
-        top: top_of(k, height),
+        left,
+        top,
         width,
         height,
     }
-}
-
-// The first column of subband k, whose level has bands of this width.
-fn left_of(k: usize, width: usize) -> usize
-    ensures { result ≡ left_of (orientation_of k) width }
-{
-    if k == 0 {
-        return 0;
-    }
-    if k % 3 == 2 { 0 } else { width }
-}
-
-// The first row of subband k, whose level has bands of this height.
-fn top_of(k: usize, height: usize) -> usize
-    ensures { result ≡ top_of (orientation_of k) height }
-{
-    if k == 0 {
-        return 0;
-    }
-    if k % 3 == 1 { 0 } else { height }
 }

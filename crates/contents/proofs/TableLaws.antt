@@ -8,32 +8,17 @@ use native.Mathlib.Numerals.{add-one}
 use native.Mathlib.Decide.{dec_lt}
 use native.Mathlib.Omega.{arith}
 use lib.Dec.{leb, eqb}
-use lib.ListN.{length, take, drop, get_or, get_or-eq_default}
-use borrow.Author.Tests.{leb-true, eqb-true, le-leb, lt-leb, eq-eqb, ne_eqb}
+use lib.ListN.{length, take, drop, get_or}
+use borrow.Author.Tests.{leb-true, eqb-true}
 use Rattle.base.specs.Every.{all_below}
 use Rattle.base.proofs.EveryLaws.{all-at}
 use Rattle.base.proofs.Booleans.{and_left, and_right, cond-none, cond-some, cond-most}
 use Rattle.component.specs.Checks.{in_range}
 use Rattle.component.proofs.ChecksLaws.{range-least, range-most}
-use Rattle.contents.specs.Table.{stated_count, entry_offset, codeblock_count, offset_at, length_at, body_start, entry_is_right, table_is_right, entry_count, entry_at, body}
+use Rattle.contents.specs.Table.{stated_count, entry_offset, offset_at, length_at, body_start, entry_is_right, table_is_right, entry_count, entry_at, body}
 use Rattle.contents.specs.declared.table.Entry.{Entry}
 
--- 0 stands for 1, any other count for itself
-pub default-count : (n : ℕ) → n ≡ 0 → codeblock_count n ≡ 1
-unfolding codeblock_count
-default-count zero e = refl
-default-count (suc n) e = absurd (omega arith)
-
-pub own-count : (n : ℕ) → (n ≡ 0 → ⊥) → codeblock_count n ≡ n
-unfolding codeblock_count
-own-count zero other = absurd (other refl)
-own-count (suc n) other = refl
-
 module _ (file : List ℕ) where
-  -- a file without bytes states no entry
-  pub stated-none : length file ≡ 0 → stated_count file ≡ 0
-  stated-none e = get_or-eq_default file 0 (omega arith)
-
   -- a body starts where the one before it ends
   pub first_body : body_start file 0 ≡ entry_offset (stated_count file)
   unfolding body_start
@@ -52,59 +37,6 @@ module _ (file : List ℕ) where
         | yes above ↦ let e : k ≡ suc n = omega arith in rw e (omega arith)
         | no not_above ↦ omega (arith, bodies-in-order k n (omega arith))
       ]
-
-  -- the tests of an entry, in their order: the first that fails answers
-  module _ (k : ℕ) where
-    pub intra-wrong : 1 < get_or file (entry_offset k + 6) 0 → false ≡ entry_is_right file k
-    unfolding entry_is_right
-    intra-wrong above = rw (lt-leb (get_or file (entry_offset k + 6) 0) 1 above)
-
-    pub zero-byte-wrong : get_or file (entry_offset k + 6) 0 ≤ 1 → 0 < get_or file (entry_offset k + 7) 0 → false ≡ entry_is_right file k
-    unfolding entry_is_right
-    zero-byte-wrong intra above =
-        rw (le-leb (get_or file (entry_offset k + 6) 0) 1 intra, ne_eqb (get_or file (entry_offset k + 7) 0) 0 (λ e. omega arith))
-
-    pub offset-decides :
-        get_or file (entry_offset k + 6) 0 ≤ 1 → get_or file (entry_offset k + 7) 0 ≡ 0
-        → eqb (offset_at file k) (body_start file k) ≡ entry_is_right file k
-    unfolding entry_is_right
-    offset-decides intra none = rw (le-leb (get_or file (entry_offset k + 6) 0) 1 intra, eq-eqb (get_or file (entry_offset k + 7) 0) 0 none)
-
-  -- the tests of the table, likewise
-  pub file-too-long : 65536 < length file → false ≡ table_is_right file
-  unfolding table_is_right
-  file-too-long long = rw (lt-leb (length file) 65536 long)
-
-  pub too_few : length file ≤ 65536 → stated_count file < 1 → false ≡ table_is_right file
-  unfolding table_is_right
-  too_few short few = rw (le-leb (length file) 65536 short, lt-leb 1 (stated_count file) few)
-
-  pub too_many : length file ≤ 65536 → 1 ≤ stated_count file → 16 < stated_count file → false ≡ table_is_right file
-  unfolding table_is_right
-  too_many short some many = rw (le-leb (length file) 65536 short, le-leb 1 (stated_count file) some, lt-leb (stated_count file) 16 many)
-
-  module _ (short : length file ≤ 65536) (some : 1 ≤ stated_count file) (few : stated_count file ≤ 16) where
-    pub table-outside : length file < entry_offset (stated_count file) → false ≡ table_is_right file
-    unfolding table_is_right
-    table-outside outside =
-        rw (
-          le-leb (length file) 65536 short,
-          le-leb 1 (stated_count file) some,
-          le-leb (stated_count file) 16 few,
-          lt-leb (entry_offset (stated_count file)) (length file) outside,
-        )
-
-    pub bodies-decide :
-        entry_offset (stated_count file) ≤ length file
-        → all_below (stated_count file) (entry_is_right file) && eqb (body_start file (stated_count file)) (length file) ≡ table_is_right file
-    unfolding table_is_right
-    bodies-decide inside =
-        rw (
-          le-leb (length file) 65536 short,
-          le-leb 1 (stated_count file) some,
-          le-leb (stated_count file) 16 few,
-          le-leb (entry_offset (stated_count file)) (length file) inside,
-        )
 
   -- what a right table says
   pub record RightTable : Type 0 where
@@ -134,14 +66,10 @@ module _ (file : List ℕ) where
         last-ends = eqb-true (body_start file (stated_count file)) (length file) (and_right (size && range && room && entries) end e);
       }
 
-  -- a right table has as many entries as it states, and a wrong one none
+  -- a right table has as many entries as it states
   pub count-right : table_is_right file ≡ true → entry_count file ≡ stated_count file
   unfolding entry_count
   count-right e = rw e
-
-  pub count-wrong : table_is_right file ≡ false → entry_count file ≡ 0
-  unfolding entry_count
-  count-wrong e = rw e
 
   -- so a table without entries is wrong, and one with an entry is right
   pub no-entry : entry_count file ≡ 0 → table_is_right file ≡ false
@@ -153,9 +81,9 @@ module _ (file : List ℕ) where
   entry-right k h = cond-some (table_is_right file) (stated_count file) k h
 
   -- there are at most 16 entries
-  pub entries-most : entry_count file ≤ 16
+  pub entries_bounded : entry_count file ≤ 16
   unfolding entry_count
-  entries-most = cond-most (table_is_right file) (stated_count file) 16 (λ r. (right r).count_most)
+  entries_bounded = cond-most (table_is_right file) (stated_count file) 16 (λ r. (right r).count_most)
 
   -- an entry of a right table
   module _ (k : ℕ) (below : k < entry_count file) where
@@ -166,13 +94,13 @@ module _ (file : List ℕ) where
     stated-below = rw (count-right (entry-right k below)) at below
 
     -- its bytes are in the file
-    pub entry-inside : entry_offset (k + 1) ≤ length file
-    entry-inside = omega (arith, table-right.table-inside, stated-below)
+    pub entry_inside : entry_offset (k + 1) ≤ length file
+    entry_inside = omega (arith, table-right.table-inside, stated-below)
 
     -- its offset is where its body has to start
-    pub offset-right : offset_at file k ≡ body_start file k
+    pub offset_right : offset_at file k ≡ body_start file k
     unfolding entry_is_right
-    offset-right =
+    offset_right =
         let bytes = leb (get_or file (entry_offset k + 6) 0) 1 && eqb (get_or file (entry_offset k + 7) 0) 0 in
         let offset = eqb (offset_at file k) (body_start file k) in
         let all = all-at (entry_is_right file) (stated_count file) k table-right.entries-right stated-below in

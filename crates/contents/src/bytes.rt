@@ -7,21 +7,23 @@ pub fn byte_at(file: &[u8], at: usize) -> u32
     requires { at < length file.now }
     ensures { (result ≡ get_or file.now at 0) × (result < 256) }
 {
-    file[at] as u32
+    u32::from(file[at])
 }
 
 // The number of two bytes, from an offset on.
+#[tactic(auto, unfolding(crate::specs::Bytes::big_endian))]
 pub fn two_bytes_at(file: &[u8], at: usize) -> u32
     requires { at + 2 ≤ length file.now }
     ensures { (result ≡ big_endian file.now at 2) × (result < 65536) }
 {
-    byte_at(file, at) * 256 + byte_at(file, at + 1)
+    u32::from(u16::from_be_bytes([file[at], file[at + 1]]))
 }
 
 // The number of four bytes, from an offset on.
+#[tactic(auto, unfolding(crate::specs::Bytes::big_endian))]
 pub fn four_bytes_at(file: &[u8], at: usize) -> usize
     requires { at + 4 ≤ length file.now }
     ensures { (result ≡ big_endian file.now at 4) × (result < 4294967296) }
 {
-    (two_bytes_at(file, at) as usize) * 65536 + (two_bytes_at(file, at + 2) as usize)
+    u32::from_be_bytes([file[at], file[at + 1], file[at + 2], file[at + 3]]) as usize
 }

@@ -2,11 +2,12 @@
 #![tactic(auto)]
 
 ghost use Rattle.std.specs.Prelude.{◌≡◌};
+ghost use Rattle.component.specs.Answers.{answer_of};
 ghost use Rattle.decode.specs.Job.{outcome, decoded};
 
 use base::plane::zero;
-use component::checks::refusal;
-use component::parameters::{Answer, Job, Lengths, Parameters};
+use component::checks::check;
+use component::parameters::{Job, Lengths, Parameters, Refused};
 use transform::synthesise;
 use unpack::unpack;
 
@@ -18,8 +19,8 @@ pub fn decode(
     coefficients: &mut [i32],
     work: &mut [i32],
     samples: &mut [i32],
-) -> Answer
-    ensures { outcome result coefficients.new work.new samples.new
+) -> Result<usize, Refused>
+    ensures { outcome (answer_of result) coefficients.new work.new samples.new
         ≡ decoded p bytes.now coefficients.old work.old samples.old }
 {
     let lengths = Lengths {
@@ -27,20 +28,18 @@ pub fn decode(
         work: work.len(),
         samples: samples.len(),
     };
-    let status = refusal(Job::Decode, p, lengths);
-    if status != 0 {
-        return Answer { status, place: 0 };
-    }
-    let unpacked = unpack(p, bytes, coefficients);
-    if unpacked.status != 0 {
-        zero(work);
-        zero(samples);
-        return unpacked;
-    }
-    let synthesised = synthesise(p, coefficients, work, samples);
-    if synthesised.status != 0 {
+    check(Job::Decode, p, lengths)?;
+    let used = match unpack(p, bytes, coefficients) {
+        Ok(count) => count,
+        Err(refused) => {
+            zero(work);
+            zero(samples);
+            return Err(refused);
+        }
+    };
+    if let Err(refused) = synthesise(p, coefficients, work, samples) {
         zero(coefficients);
-        return synthesised;
+        return Err(refused);
     }
-    unpacked
+    Ok(used)
 }

@@ -7,12 +7,9 @@ use Prim.Native.Nat.{ℕ, ◌+◌, ◌*◌, min}
 use native.Mathlib.Omega.{arith}
 use lib.ListN.{length}
 use borrow.Author.Tests.{lt-ltb, le-ltb, ltb-false}
-use Rattle.exp_golomb.specs.Bits.{present, take_bit}
+use Rattle.exp_golomb.specs.Bits.{Taken, Absent, present, take_bit}
 use Rattle.exp_golomb.specs.Begins.{Begins}
-use Rattle.exp_golomb.specs.Codes.{signed}
-use Rattle.exp_golomb.specs.declared.bits.Bit.TheVariants.{Taken, Absent}
-use Rattle.exp_golomb.specs.declared.codes.Number.{Number}
-use Rattle.exp_golomb.specs.declared.codes.Number.TheVariants.{Read, Missing, TooLong}
+use Rattle.exp_golomb.specs.Codes.{Number, Read, Missing, TooLong, signed}
 use Rattle.exp_golomb.proofs.BitsLaws.{take-present, take-absent, take-past-stated, present-below}
 use Rattle.exp_golomb.proofs.Moved.{moved, NotMissing, signed-moved}
 

@@ -8,9 +8,7 @@ use native.Mathlib.Omega.{arith}
 use lib.Dec.{ltb}
 use lib.ListN.{length}
 use borrow.Author.Tests.{lt-ltb, le-ltb, ltb-true, ltb-false}
-use Rattle.exp_golomb.specs.Bits.{bit_at, present, take_bit}
-use Rattle.exp_golomb.specs.declared.bits.Bit.{Bit}
-use Rattle.exp_golomb.specs.declared.bits.Bit.TheVariants.{Taken, Absent}
+use Rattle.exp_golomb.specs.Bits.{Bit, Taken, Absent, bit_at, present, take_bit}
 
 module _ (bytes : List ℕ) (end i : ℕ) where
   -- a bit is there before the end, in a byte that is there
@@ -60,9 +58,9 @@ pub record BitTaken (bytes : List ℕ) (end i bit next : ℕ) : Type 0 where
   pub one_at_most : next ≤ i + 1
   pub within : (i ≤ min end (8 * length bytes)) → next ≤ min end (8 * length bytes)
 
-pub taken : (bytes : List ℕ) (end : ℕ) (stated : Bool) (i bit next : ℕ) → take_bit bytes end stated i ≡ Taken bit next → BitTaken bytes end i bit next
+pub bit-taken : (bytes : List ℕ) (end : ℕ) (stated : Bool) (i bit next : ℕ) → take_bit bytes end stated i ≡ Taken bit next → BitTaken bytes end i bit next
 unfolding take_bit
-taken bytes end stated i bit next e = by-presence (present bytes end i) refl
+bit-taken bytes end stated i bit next e = by-presence (present bytes end i) refl
   where
     there : present bytes end i ≡ true → BitTaken bytes end i bit next
     there p =

@@ -5,16 +5,38 @@ use mathlib.Core.Logic.{◌≢◌}
 use mathlib.Core.Bool.{Bool, false}
 use mathlib.Core.List.{List}
 use Prim.Native.Nat.{ℕ, zero, suc, ◌+◌, ◌-◌, ◌*◌, ◌^◌, ◌≤◌, ◌<◌}
-use native.Mathlib.Nat.{pow-suc}
 use native.Mathlib.Omega.{arith}
 use lib.Dec.{eqb}
+use lib.Pow.{pow-add}
 use borrow.Author.Tests.{ne_eqb}
-use Rattle.exp_golomb.specs.Bits.{take_bit}
-use Rattle.exp_golomb.specs.Codes.{on_bit, code_from, with_sign_bit}
-use Rattle.exp_golomb.specs.declared.bits.Bit.{Bit}
-use Rattle.exp_golomb.specs.declared.bits.Bit.TheVariants.{Taken, Absent}
-use Rattle.exp_golomb.specs.declared.codes.Number.{Number}
-use Rattle.exp_golomb.specs.declared.codes.Number.TheVariants.{Read, Missing, TooLong}
+use Rattle.exp_golomb.specs.Bits.{Bit, Taken, Absent, take_bit}
+use Rattle.base.specs.Refusals.{number_of}
+use Rattle.base.specs.declared.status.Fault.{Fault}
+use Rattle.exp_golomb.specs.Codes.{Number, Read, Missing, TooLong, status_of, next_of, needed, result_of, on_bit, code_from, with_sign_bit}
+use Rattle.exp_golomb.specs.declared.bits.TakenBit.{TakenBit}
+use Rattle.exp_golomb.specs.declared.codes.ReadNumber.{ReadNumber}
+use Rattle.std.proofs.Common.{Ok, Err}
+
+-- what the code says of a bit that a number needs
+pub needed-taken : (b : Bit) (i : ℕ) (t : TakenBit) → Ok t ≡ needed b i → b ≡ Taken t.bit t.next
+needed-taken (Taken bit next) i t e = cc
+needed-taken Absent i t e = cc
+
+pub needed-absent : (b : Bit) (i : ℕ) (fault : Fault) → Err fault ≡ needed b i → (b ≡ Absent) × (Err fault ≡ result_of (Missing i))
+needed-absent (Taken bit next) i fault e = cc
+needed-absent Absent i fault e = (refl, cc)
+
+-- what it says of a number: one that was read, and a refusal
+pub result-read : (number : Number) (n : ReadNumber) → Ok n ≡ result_of number → number ≡ Read n.size n.minus n.next
+result-read (Read size minus next) n e = cc
+result-read (Missing next) n e = cc
+result-read (TooLong next) n e = cc
+
+pub result-fault : (number : Number) (fault : Fault) → Err fault ≡ result_of number →
+    (number_of fault.refusal ≡ status_of number) × (fault.bit ≡ next_of number) × ((size : ℕ) (minus : Bool) (next : ℕ) → number ≡ Read size minus next → ⊥)
+result-fault (Read size minus next) fault e = cc
+result-fault (Missing next) fault e = (cc, cc, λ size minus n h. cc)
+result-fault (TooLong next) fault e = (cc, cc, λ size minus n h. cc)
 
 module _ (bytes : List ℕ) (end : ℕ) (stated : Bool) where
   abbrev take : ℕ → Bit
@@ -79,9 +101,12 @@ module _ (bytes : List ℕ) (end : ℕ) (stated : Bool) where
   unfolding with_sign_bit on_bit
   sign_read number size minus next bit after e some more = rw (e, ne_eqb size 0 some, more)
 
--- the value stays below a power of two that grows with the data bits
+-- the value stays below a power of two that grows with the data bits, those read and those left
+pub value_doubled : (v d k : ℕ) → d ≤ 1 → v < 2 ^ (k + 1) → 2 * v + d < 2 ^ (k + 1 + 1)
+value_doubled v d k bit below = rw (pow-add 2 (k + 1) 1) (omega arith)
+
 pub value_grows : (v d left : ℕ) → left ≤ 31 → left ≢ 0 → d ≤ 1 → v < 2 ^ (32 - left) → 2 * v + d < 2 ^ (32 - (left - 1))
 value_grows v d left small some bit below =
-    let up : 32 - (left - 1) ≡ suc (32 - left) = omega arith in
-    let doubled : 2 ^ suc (32 - left) ≡ 2 ^ (32 - left) * 2 = pow-suc 2 (32 - left) in
-    rw (up, doubled) (omega arith)
+    let now : 32 - left ≡ 31 - left + 1 = omega arith in
+    let up : 32 - (left - 1) ≡ 31 - left + 1 + 1 = omega arith in
+    rw up (value_doubled v d (31 - left) bit (rw now at below))

@@ -10,12 +10,9 @@ use native.Mathlib.Omega.{arith}
 use lib.Dec.{eqb}
 use lib.ListN.{length}
 use borrow.Author.Tests.{le-ltb}
-use Rattle.exp_golomb.specs.Bits.{present, take_bit}
-use Rattle.exp_golomb.specs.Codes.{next_of, code_from, unsigned, with_sign_bit, signed}
-use Rattle.exp_golomb.specs.declared.bits.Bit.{Bit}
-use Rattle.exp_golomb.specs.declared.codes.Number.{Number}
-use Rattle.exp_golomb.specs.declared.codes.Number.TheVariants.{Read, Missing, TooLong}
-use Rattle.exp_golomb.proofs.BitsLaws.{takes, absent-past, take-absent, take-past-stated, taken}
+use Rattle.exp_golomb.specs.Bits.{Bit, present, take_bit}
+use Rattle.exp_golomb.specs.Codes.{Number, Read, Missing, TooLong, next_of, code_from, unsigned, with_sign_bit, signed}
+use Rattle.exp_golomb.proofs.BitsLaws.{takes, absent-past, take-absent, take-past-stated, bit-taken}
 use Rattle.exp_golomb.proofs.CodesLaws.{code-missing, code-ends, code-too-long, code-cut, code-goes-on, sign-none, sign-missing, sign_read}
 
 -- A position that a code of so many data bits, which starts at bit i, can come to, in data that end at `last`.
@@ -39,7 +36,7 @@ module _ (bytes : List ℕ) (end : ℕ) (stated : Bool) where
   code-end zero v i =
       takes (CodeEnd i zero last (next_of (code zero v i))) (take i)
       (λ bit next e.
-      let t = taken bytes end stated i bit next e in
+      let t = bit-taken bytes end stated i bit next e in
       let here : CodeEnd i zero last next = record { onward = t.goes_on; bits_most = omega (arith, t.one_at_most); within = t.within } in
       elim (ℕ_discrete bit 1) [
         | yes one ↦ rw (code-ends bytes end stated zero v i bit next e one) here
@@ -49,14 +46,14 @@ module _ (bytes : List ℕ) (end : ℕ) (stated : Bool) where
   code-end (suc left) v i =
       takes (CodeEnd i (suc left) last (next_of (code (suc left) v i))) (take i)
       (λ bit next e.
-      let t = taken bytes end stated i bit next e in
+      let t = bit-taken bytes end stated i bit next e in
       let here : CodeEnd i (suc left) last next = record { onward = t.goes_on; bits_most = omega (arith, t.one_at_most); within = t.within } in
       elim (ℕ_discrete bit 1) [
         | yes one ↦ rw (code-ends bytes end stated (suc left) v i bit next e one) here
         | no other ↦
             takes (CodeEnd i (suc left) last (next_of (code (suc left) v i))) (take next)
             (λ d after e2.
-            let u = taken bytes end stated next d after e2 in
+            let u = bit-taken bytes end stated next d after e2 in
             let less : suc left - 1 ≡ left = omega arith in
             let rest = code-end left (2 * v + d) after in
             rw (code-goes-on bytes end stated (suc left) v i bit next d after e other (omega arith) e2, less)
@@ -89,7 +86,7 @@ module _ (bytes : List ℕ) (end : ℕ) (stated : Bool) where
             | no some ↦
                 takes (CodeEnd i 32 last (next_of (signed bytes end stated i))) (take next)
                 (λ bit after e.
-                let t = taken bytes end stated next bit after e in
+                let t = bit-taken bytes end stated next bit after e in
                 rw (sign_read bytes end stated (unsigned bytes end stated i) size minus next bit after u some e)
                 (record {
                   onward = omega (arith, reach.onward, t.goes_on);
@@ -213,7 +210,7 @@ module _ (bytes : List ℕ) (end₁ end₂ : ℕ) (stated : Bool) where
       let first = take_same i (same i (omega arith)) in
       takes (code_from bytes end₁ stated (suc left) v i ≡ code_from bytes end₂ stated (suc left) v i) (take_bit bytes end₂ stated i)
       (λ bit next e.
-      let t = taken bytes end₂ stated i bit next e in
+      let t = bit-taken bytes end₂ stated i bit next e in
       let second = take_same next (same next (omega (arith, t.one_at_most))) in
       elim (ℕ_discrete bit 1) [
         | yes one ↦
@@ -221,7 +218,7 @@ module _ (bytes : List ℕ) (end₁ end₂ : ℕ) (stated : Bool) where
         | no other ↦
             takes (code_from bytes end₁ stated (suc left) v i ≡ code_from bytes end₂ stated (suc left) v i) (take_bit bytes end₂ stated next)
             (λ d after e2.
-            let u = taken bytes end₂ stated next d after e2 in
+            let u = bit-taken bytes end₂ stated next d after e2 in
             let less : suc left - 1 ≡ left = omega arith in
             let rest = code_same left (2 * v + d) after (λ k h. same k (omega (arith, t.one_at_most, u.one_at_most))) in
             rw (

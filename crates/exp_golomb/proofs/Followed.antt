@@ -7,10 +7,8 @@ use Prim.Native.Nat.{ℕ, ◌+◌, ◌-◌, ◌*◌, ◌/◌, ◌%◌, ◌^◌, 
 use native.Mathlib.Omega.{arith}
 use lib.ListN.{length, length-append, get_or-append}
 use borrow.Author.Tests.{lt-ltb}
-use Rattle.exp_golomb.specs.Bits.{bit_at, present, take_bit}
-use Rattle.exp_golomb.specs.Codes.{unsigned}
-use Rattle.exp_golomb.specs.declared.bits.Bit.TheVariants.{Taken}
-use Rattle.exp_golomb.specs.declared.codes.Number.TheVariants.{Read}
+use Rattle.exp_golomb.specs.Bits.{Taken, bit_at, present, take_bit}
+use Rattle.exp_golomb.specs.Codes.{Read, unsigned}
 use Rattle.exp_golomb.proofs.BitsLaws.{take-present, unstated-taken}
 use Rattle.exp_golomb.proofs.Moved.{unsigned-moved-upto}
 

@@ -7,13 +7,9 @@ use mathlib.Core.List.{List}
 use Prim.Native.Nat.{ℕ, zero, suc, ◌+◌, ◌-◌, ◌*◌, ◌≤◌}
 use native.Mathlib.Decide.{ℕ_discrete}
 use native.Mathlib.Omega.{arith}
-use Rattle.exp_golomb.specs.Bits.{take_bit}
-use Rattle.exp_golomb.specs.Codes.{next_of, code_from, unsigned, with_sign_bit, signed}
-use Rattle.exp_golomb.specs.declared.bits.Bit.{Bit}
-use Rattle.exp_golomb.specs.declared.bits.Bit.TheVariants.{Taken}
-use Rattle.exp_golomb.specs.declared.codes.Number.{Number}
-use Rattle.exp_golomb.specs.declared.codes.Number.TheVariants.{Read, Missing, TooLong}
-use Rattle.exp_golomb.proofs.BitsLaws.{taken, takes, stated-bit}
+use Rattle.exp_golomb.specs.Bits.{Bit, Taken, take_bit}
+use Rattle.exp_golomb.specs.Codes.{Number, Read, Missing, TooLong, next_of, code_from, unsigned, with_sign_bit, signed}
+use Rattle.exp_golomb.proofs.BitsLaws.{bit-taken, takes, stated-bit}
 use Rattle.exp_golomb.proofs.CodesLaws.{code-missing, code-ends, code-too-long, code-cut, code-goes-on, sign-none, sign-missing, sign_read, sign-refused}
 use Rattle.exp_golomb.proofs.Extent.{code-end}
 
@@ -89,7 +85,7 @@ module _ (f : ℕ → ℕ) (upto : ℕ) (a b : Source) (has : (k bit next : ℕ)
             rw less at (sym (code-goes-on a.bytes a.end a.stated (suc left) v i bit next bit₂ after t other (omega arith) u) ∙ e) in
             let reached = inside_of _ n rest inside in
             let after-inside : after ≤ upto = omega (arith, (code-end a.bytes a.end a.stated left (2 * v + bit₂) after).onward) in
-            let next-inside : next ≤ upto = omega (arith, (taken a.bytes a.end a.stated next bit₂ after u).goes_on) in
+            let next-inside : next ≤ upto = omega (arith, (bit-taken a.bytes a.end a.stated next bit₂ after u).goes_on) in
             code-goes-on b.bytes b.end b.stated (suc left) v (f i) bit (f next) bit₂ (f after) (has i bit next next-inside t) other (omega arith) (has next bit₂ after after-inside u)
             ∙ rw less (code-moved left (2 * v + bit₂) after n rest whole inside))
             (λ u. absurd (whole-cut n next whole (sym (code-cut a.bytes a.end a.stated (suc left) v i bit next t other (omega arith) u) ∙ e)))

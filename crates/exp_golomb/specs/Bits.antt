@@ -1,9 +1,18 @@
 -- Document 01, "Number codes": the bits of a list of bytes, and taking one.
 -- Bits count from 0 at the first byte's top. Data end at bit `end`, and never after the bytes do; `stated` says that they are block data
 -- of a stated length.
-use Rattle.std.specs.Prelude.{ℕ, zero, suc, ◌+◌, ◌-◌, ◌*◌, ◌/◌, ◌%◌, ◌^◌, min, Bool, cond, List, ltb, length, get_or}
-use Rattle.exp_golomb.specs.declared.bits.Bit.{Bit}
-use Rattle.exp_golomb.specs.declared.bits.Bit.TheVariants.{Taken, Absent}
+use Rattle.std.specs.Prelude.{ℕ, zero, suc, ◌+◌, ◌-◌, ◌*◌, ◌/◌, ◌%◌, ◌^◌, min, Bool, cond, List, Option, Some, None, ltb, length, get_or}
+use Rattle.exp_golomb.specs.declared.bits.TakenBit.{TakenBit}
+
+-- What taking a bit finds: the bit, with the next one's position, or nothing.
+pub data Bit : Type 0 where
+  Taken : (bit next : ℕ) → Bit
+  Absent : Bit
+
+-- The same, as the code says it.
+abbrev pub bit_of : Option TakenBit → Bit
+bit_of (Some t) = Taken t.bit t.next
+bit_of None = Absent
 
 -- "Bits are taken from the top of each byte."
 unfoldable pub bit_at : List ℕ → ℕ → ℕ

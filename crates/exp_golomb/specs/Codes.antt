@@ -1,10 +1,28 @@
 -- Document 01, "Number codes": unsigned and signed numbers, in interleaved exp-Golomb codes.
-use Rattle.std.specs.Prelude.{ℕ, zero, suc, ◌+◌, ◌-◌, ◌*◌, Bool, false, cond, List, eqb}
-use Rattle.exp_golomb.specs.Bits.{take_bit}
-use Rattle.exp_golomb.specs.declared.bits.Bit.{Bit}
-use Rattle.exp_golomb.specs.declared.bits.Bit.TheVariants.{Taken, Absent}
-use Rattle.exp_golomb.specs.declared.codes.Number.{Number}
-use Rattle.exp_golomb.specs.declared.codes.Number.TheVariants.{Read, Missing, TooLong}
+use Rattle.std.specs.Prelude.{ℕ, zero, suc, ◌+◌, ◌-◌, ◌*◌, Bool, false, cond, List, Result, Ok, Err, eqb}
+use Rattle.base.specs.declared.status.Fault.{Fault}
+use Rattle.base.specs.declared.status.Refusal.TheVariants.{BytesEndEarly, CodeTooLong}
+use Rattle.exp_golomb.specs.Bits.{Bit, Taken, Absent, take_bit}
+use Rattle.exp_golomb.specs.declared.bits.TakenBit.{TakenBit}
+use Rattle.exp_golomb.specs.declared.codes.ReadNumber.{ReadNumber}
+
+-- What reading a number finds: its size, and whether it is below 0; or that a bit is missing, or the code too long. `next` is the bit after
+-- those taken.
+pub data Number : Type 0 where
+  Read : (size : ℕ) (minus : Bool) (next : ℕ) → Number
+  Missing : (next : ℕ) → Number
+  TooLong : (next : ℕ) → Number
+
+-- The same, as the code says it.
+abbrev pub result_of : Number → Result ReadNumber Fault
+result_of (Read size minus next) = Ok (record { size = size; minus = minus; next = next })
+result_of (Missing next) = Err (record { refusal = BytesEndEarly; bit = next })
+result_of (TooLong next) = Err (record { refusal = CodeTooLong; bit = next })
+
+-- Bit i as the code says it, where a number needs one.
+abbrev pub needed : Bit → ℕ → Result TakenBit Fault
+needed (Taken bit next) i = Ok (record { bit = bit; next = next })
+needed Absent i = Err (record { refusal = BytesEndEarly; bit = i })
 
 -- "A bit missing from the bytes gives 6", "a 0 read after the 31st gives refusal 7": the number of each answer.
 abbrev pub status_of : Number → ℕ

@@ -1,29 +1,29 @@
 // Document 01, "Number codes": taking a bit.
 ghost use Rattle.std.specs.Prelude.{◌≡◌};
-ghost use Rattle.exp_golomb.specs.Bits.{present, take_bit};
+ghost use Rattle.exp_golomb.specs.Bits.{bit_of, present, take_bit};
 
-// What taking a bit finds: the bit, with the next one's position, or nothing.
-#[derive(Clone, Copy)]
-pub enum Bit {
-    Taken { bit: u64, next: usize },
-    Absent,
+// A bit that was taken, and the next one's position.
+#[derive(Clone, Copy, Debug, PartialEq, Eq)]
+pub struct TakenBit {
+    pub bit: u64,
+    pub next: usize,
 }
 
-// Bit `at` of data that end at bit `end` or where the bytes do. Past data of a stated length it is 1.
-pub fn take_bit(bytes: &[u8], end: usize, stated: bool, at: usize) -> Bit
-    ensures { result ≡ take_bit bytes.now end stated at }
+// Bit `at` of data that end at bit `end` or where the bytes do, or nothing. Past data of a stated length it is 1.
+pub fn take_bit(bytes: &[u8], end: usize, stated: bool, at: usize) -> Option<TakenBit>
+    ensures { bit_of result ≡ take_bit bytes.now end stated at }
 {
     if is_present(bytes, end, at) {
-        let byte = bytes[at / 8] as u64;
+        let byte = u64::from(bytes[at / 8]);
         let shift = 7 - at % 8;
         let bit = (byte >> shift) % 2;
         let next = at + 1;
-        return Bit::Taken { bit, next };
+        return Some(TakenBit { bit, next });
     }
     if stated {
-        Bit::Taken { bit: 1, next: at }
+        Some(TakenBit { bit: 1, next: at })
     } else {
-        Bit::Absent
+        None
     }
 }
 

@@ -1,113 +1,81 @@
 // Document 01, "Number codes": unsigned and signed numbers.
 ghost use Rattle.std.specs.Prelude.{◌≡◌};
-ghost use Rattle.exp_golomb.specs.Codes.{status_of, next_of, unsigned, signed};
+ghost use Rattle.exp_golomb.specs.Bits.{take_bit};
+ghost use Rattle.exp_golomb.specs.Codes.{needed, result_of, unsigned, signed};
 
-use crate::bits::{Bit, take_bit};
+use crate::bits::{TakenBit, take_bit};
 use base::limits::DATA_BITS_MOST;
-use base::status::{ACCEPTED, BYTES_END_EARLY, CODE_TOO_LONG};
+use base::status::{Fault, Refusal};
 
-// What reading a number finds. `next` is the bit after those taken, which are never past the end.
-#[derive(Clone, Copy)]
-pub enum Number {
-    // A number that was read: its size, and whether it is below 0.
-    Read { size: u32, minus: bool, next: usize },
-    // A bit is missing.
-    Missing { next: usize },
-    // The code is too long.
-    TooLong { next: usize },
+// A number that was read: its size, whether it is below 0, and the bit after those taken, which are never past the end.
+#[derive(Clone, Copy, Debug, PartialEq, Eq)]
+pub struct ReadNumber {
+    pub size: u32,
+    pub minus: bool,
+    pub next: usize,
 }
 
-// The number of a refusal, or 0.
-pub fn status(number: Number) -> u32
-    ensures { result ≡ status_of number }
-{
-    match number {
-        Number::Read {
-            size: _,
-            minus: _,
-            next: _,
-        } => ACCEPTED,
-        Number::Missing { next: _ } => BYTES_END_EARLY,
-        Number::TooLong { next: _ } => CODE_TOO_LONG,
-    }
-}
-
-// The bit after those taken, on refusal too.
-pub fn next_bit(number: Number) -> usize
-    ensures { result ≡ next_of number }
-{
-    match number {
-        Number::Read {
-            size: _,
-            minus: _,
-            next,
-        } => next,
-        Number::Missing { next } => next,
-        Number::TooLong { next } => next,
-    }
-}
-
-// The unsigned number whose code starts at bit `at` of data that end at bit `end`, or where the bytes do.
-pub fn read_unsigned(bytes: &[u8], end: usize, stated: bool, at: usize) -> Number
-    ensures { result ≡ unsigned bytes.now end stated at }
+// The unsigned number whose code starts at bit `at` of data that end at bit `end`, or where the bytes do. A refusal's bit is the one after
+// those taken. Bytes, end and stated stay arguments, as the definitions have them: callers keep end and stated in a cursor of their own, and would
+// fill a struct for each call.
+pub fn read_unsigned(bytes: &[u8], end: usize, stated: bool, at: usize) -> Result<ReadNumber, Fault>
+    ensures { result ≡ result_of (unsigned bytes.now end stated at) }
 {
     let mut v: u64 = 1;
-    let mut left: u32 = DATA_BITS_MOST;
     let mut i = at;
-    loop {
-        let Bit::Taken { bit, next } = take_bit(bytes, end, stated, i) else {
-            return Number::Missing { next: i };
-        };
-        if bit == 1 {
-            let size = (v - 1) as u32;
-            return Number::Read {
-                size,
+    for _ in 0..DATA_BITS_MOST {
+        let last = needed_bit(bytes, end, stated, i)?;
+        if last.bit == 1 {
+            return Ok(ReadNumber {
+                size: (v - 1) as u32,
                 minus: false,
-                next,
-            };
+                next: last.next,
+            });
         }
-        if left == 0 {
-            return Number::TooLong { next };
-        }
-        let Bit::Taken {
-            bit: d,
-            next: after,
-        } = take_bit(bytes, end, stated, next)
-        else {
-            return Number::Missing { next };
-        };
-        v = 2 * v + d;
-        i = after;
-        left -= 1;
+        let data = needed_bit(bytes, end, stated, last.next)?;
+        v = 2 * v + data.bit;
+        i = data.next;
     }
+    let last = needed_bit(bytes, end, stated, i)?;
+    if last.bit == 1 {
+        return Ok(ReadNumber {
+            size: (v - 1) as u32,
+            minus: false,
+            next: last.next,
+        });
+    }
+    Err(Fault {
+        refusal: Refusal::CodeTooLong,
+        bit: last.next,
+    })
 }
 
 // The signed number whose code starts at bit `at` of data that end at bit `end`, or where the bytes do.
-pub fn read_signed(bytes: &[u8], end: usize, stated: bool, at: usize) -> Number
-    ensures { result ≡ signed bytes.now end stated at }
+pub fn read_signed(bytes: &[u8], end: usize, stated: bool, at: usize) -> Result<ReadNumber, Fault>
+    ensures { result ≡ result_of (signed bytes.now end stated at) }
 {
-    let number = read_unsigned(bytes, end, stated, at);
-    let Number::Read {
-        size,
-        minus: _,
-        next,
-    } = number
-    else {
-        return number;
-    };
-    if size == 0 {
-        return Number::Read {
-            size: 0,
+    let number = read_unsigned(bytes, end, stated, at)?;
+    if number.size == 0 {
+        return Ok(ReadNumber {
             minus: false,
-            next,
-        };
+            ..number
+        });
     }
-    let Bit::Taken { bit, next: after } = take_bit(bytes, end, stated, next) else {
-        return Number::Missing { next };
-    };
-    Number::Read {
-        size,
-        minus: bit == 1,
-        next: after,
-    }
+    let sign = needed_bit(bytes, end, stated, number.next)?;
+    Ok(ReadNumber {
+        minus: sign.bit == 1,
+        next: sign.next,
+        ..number
+    })
+}
+
+// Bit `at`, or the refusal where it is missing.
+#[inline]
+fn needed_bit(bytes: &[u8], end: usize, stated: bool, at: usize) -> Result<TakenBit, Fault>
+    ensures { result ≡ needed (take_bit bytes.now end stated at) at }
+{
+    take_bit(bytes, end, stated, at).ok_or(Fault {
+        refusal: Refusal::BytesEndEarly,
+        bit: at,
+    })
 }

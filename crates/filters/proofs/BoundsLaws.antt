@@ -5,7 +5,7 @@ use mathlib.Core.Path.{◌≡◌, refl, ap, ◌∙◌}
 use mathlib.Core.Bool.{Bool, true, false, cond, ◌&&◌, not}
 use mathlib.Core.List.{List, [], ◌∷◌, map}
 use Prim.Native.Nat.{ℕ, zero, suc, ◌+◌, ◌*◌, ◌/◌, ◌^◌, ◌≤◌, ◌<◌}
-use native.Mathlib.Nat.{le_refl, le_trans, mul-le-mul, le-div_iff_mul-le, mul-le-mul_left}
+use native.Mathlib.Nat.{le_refl, le_trans, le-div_iff_mul-le, mul-le-mul_left}
 use native.Mathlib.Omega.{arith}
 use lib.Dec.{ltb}
 use lib.IntN.{ℤ, pos, negsuc, nat_abs, ◌+ℤ◌, ◌*ℤ◌}
@@ -70,10 +70,6 @@ step_sum r v = rounding r.scale +ℤ sum_below (λ t. get_or r.taps t (pos 0) *�
 
 -- A step whose sums are made of numbers that are at most m in size.
 module _ (r : LiftingStep) (formed : WellFormedStep r) (m : ℕ) where
-  -- a gain times a size fits 64 bits, with room for more
-  pub gain-product : m ≤ 2 ^ 32 → r.gain * m ≤ 2 ^ 46
-  gain-product h = mul-le-mul formed.gain_most h
-
   -- the taps' products together are no larger than the gain says
   products-size : (v : ℕ → ℤ) → ((t : ℕ) → t < r.count → nat_abs (v t) ≤ m) → sizes_below (λ t. get_or r.taps t (pos 0) *ℤ v t) r.count ≤ r.gain * m
   unfolding step_of gain_of

@@ -24,6 +24,7 @@ pub fn stays_small(step: LiftingStep, bounds: Bounds) -> bool
 }
 
 // Whether the numbers that a step reads are below 2^14 in size.
+#[tactic(auto, unfolding(crate::specs::Bounds::bound_of))]
 pub fn reads_narrow(step: LiftingStep, bounds: Bounds) -> bool
     ensures { result ≡ ltb (source_bound step bounds) (2 ^ 14) }
 {

@@ -4,7 +4,9 @@ ghost use Rattle.filters.specs.Lifting.{rounding};
 
 // A lifting step: whether it changes the even elements, whether it adds, its first offset, its taps and its scale; and its gain, which is
 // the sum of its taps' sizes. The first offset D is counted from −3 where even elements change and from −4 where odd ones do, so that it is never
-// below 0.
+// below 0. The taps are an array with its count beside it, and so are a filter's steps: no heap, and a step is handed on by value. That a step is
+// well-formed stays a clause: entries of a filter past its count may be anything, and `gap_of`, `lift_turn`, `finish_row` and `synthesise_levels`
+// take such filters.
 #[derive(Clone, Copy)]
 pub struct LiftingStep {
     pub even: bool,

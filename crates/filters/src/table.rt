@@ -1,12 +1,11 @@
 // Document 01, "Lifting": the table of seven filters.
-ghost use Rattle.std.specs.Prelude.{◌≡◌, cond, ℕ, ◌+◌, ◌^◌, ◌≤◌, ◌<◌, pos, nat_abs, length, get_or, take};
+ghost use Rattle.std.specs.Prelude.{◌≡◌, ℕ, ◌+◌, ◌^◌, ◌≤◌, ◌<◌, pos, nat_abs, length, get_or, take};
 ghost use Rattle.std.specs.Int.Signed.{mag};
 ghost use Rattle.filters.specs.Lifting.{changes_even, adds};
 ghost use Rattle.filters.specs.Filters.{filter_of};
 ghost use Rattle.filters.specs.Table.{listed_type, StepsListed, FiltersListed, lead_of, sizes_of, record_of, StepsFrom, WellFormedStep, WellFormed, filter_from};
 
 use crate::filter::{LiftingFilter, LiftingStep};
-use base::signed;
 
 // The four types of step.
 #[derive(Clone, Copy)]
@@ -17,7 +16,26 @@ pub enum Kind {
     Four,
 }
 
-// A step as document 01 lists it: type, D, taps, S; the taps with zeros behind them, and then how many they are.
+impl Kind {
+    // "Types 1 and 2 change each A[2n]"
+    #[tactic(auto, unfolding(crate::specs::Table::listed_type, crate::specs::Lifting::changes_even))]
+    fn changes_even(self) -> bool
+        ensures { result ≡ changes_even (listed_type self) }
+    {
+        matches!(self, Kind::One | Kind::Two)
+    }
+
+    // "Types 1 and 3 add it, 2 and 4 subtract it."
+    #[tactic(auto, unfolding(crate::specs::Table::listed_type, crate::specs::Lifting::adds))]
+    fn adds_sum(self) -> bool
+        ensures { result ≡ adds (listed_type self) }
+    {
+        matches!(self, Kind::One | Kind::Three)
+    }
+}
+
+// A step as document 01 lists it: type, D, taps, S; the taps with zeros behind them, and then how many they are. Fields without names, and taps of
+// one length, let the table below list a step in one line, as document 01 does; a constant may not call a function that names them.
 #[derive(Clone, Copy)]
 pub struct TableStep(pub Kind, pub i64, pub [i64; 8], pub usize, pub u32);
 
@@ -66,12 +84,12 @@ pub fn filter_of(wavelet: usize) -> LiftingFilter
     ensures { (filter_from result ≡ filter_of wavelet) × WellFormed result }
 {
     let table = table_filters();
-    let listed = table[wavelet];
-    let steps = steps_from(listed.0, listed.1);
+    let TableFilter(start, count, shift) = table[wavelet];
+    let steps = steps_from(start, count);
     LiftingFilter {
         steps,
-        count: listed.1,
-        shift: listed.2,
+        count,
+        shift,
     }
 }
 
@@ -83,11 +101,9 @@ fn steps_from(start: usize, count: usize) -> [LiftingStep; 4]
     let table = table_steps();
     let first = record_of(table[start]);
     let mut steps = [first; 4];
-    let mut k = 1;
-    while k < count {
+    for k in 1..count {
         let step = record_of(table[start + k]);
         steps[k] = step;
-        k += 1;
     }
     steps
 }
@@ -111,42 +127,17 @@ fn record_of(row: TableStep) -> LiftingStep
     requires { (mag row.1 ≤ 2) × WellFormedStep (record_of row) }
     ensures { result ≡ record_of row }
 {
-    let kind = row.0;
-    let even = changes_even(kind);
-    let taps = row.2;
-    let gain = gain_of(&taps, row.3);
+    let TableStep(kind, first, taps, count, scale) = row;
+    let even = kind.changes_even();
+    let gain = gain_of(&taps, count);
     LiftingStep {
         even,
-        adds: adds_sum(kind),
-        lead: lead_of(even, row.1),
+        adds: kind.adds_sum(),
+        lead: lead_of(even, first),
         taps,
-        count: row.3,
-        scale: row.4,
+        count,
+        scale,
         gain,
-    }
-}
-
-// "Types 1 and 2 change each A[2n]"
-fn changes_even(kind: Kind) -> bool
-    ensures { result ≡ changes_even (listed_type kind) }
-{
-    match kind {
-        Kind::One => true,
-        Kind::Two => true,
-        Kind::Three => false,
-        Kind::Four => false,
-    }
-}
-
-// "Types 1 and 3 add it, 2 and 4 subtract it."
-fn adds_sum(kind: Kind) -> bool
-    ensures { result ≡ adds (listed_type kind) }
-{
-    match kind {
-        Kind::One => true,
-        Kind::Two => false,
-        Kind::Three => true,
-        Kind::Four => false,
     }
 }
 
@@ -155,14 +146,8 @@ fn lead_of(even: bool, first: i64) -> usize
     requires { mag first ≤ 2 }
     ensures { result ≡ lead_of even first }
 {
-    size_of(signed::add(first, offset_of(even))) as usize
-}
-
-// What is added to the first offset for that.
-fn offset_of(even: bool) -> i64
-    ensures { result ≡ pos (cond even 3 4) }
-{
-    if even { 3 } else { 4 }
+    let offset = if even { 3 } else { 4 };
+    (first + offset).unsigned_abs() as usize
 }
 
 // The sum of the taps' sizes.
@@ -171,21 +156,8 @@ fn gain_of(taps: &[i64; 8], count: usize) -> u64
     ensures { result ≡ sizes_of (take count taps.now) }
 {
     let mut gain = 0u64;
-    let mut t = 0;
-    while t < count {
-        gain += size_of(taps[t]);
-        t += 1;
+    for t in 0..count {
+        gain += taps[t].unsigned_abs();
     }
     gain
-}
-
-// The size of a number.
-fn size_of(z: i64) -> u64
-    requires { nat_abs z ≤ 2 ^ 13 }
-    ensures { result ≡ nat_abs z }
-{
-    if z < 0 {
-        return (-1 - z) as u64 + 1;
-    }
-    z as u64
 }

@@ -1,9 +1,6 @@
 // Reads a recording and writes what it decodes to (document 01, "A recording").
 #![tactic(auto)]
 
-mod input;
-
-use crate::input::read_all;
 use contents::table::entry_count;
 use recording::{AREA_MOST, FILE_ROOM, TEXT_ROOM, output_part, part_count};
 use std::env::{Env, FillError};
@@ -11,6 +8,7 @@ use std::fs::File;
 use std::io;
 use std::io::{ErrorKind, Read, Stderr};
 use std::rt::Files;
+use text::{TextBuffer, read_full};
 
 // The first argument names the file; with none, the recording is the standard input.
 fn main(rt: HostRuntime) -> io::Result<()> {
@@ -42,7 +40,7 @@ fn has_third(rt: &impl Env) -> bool {
 
 // Does what the argument asks: writes the usage, or decodes the file that it names.
 fn run<R: Files + Print + AllocGlobal>(rt: &R, errors: &Stderr, argument: &[u8]) -> io::Result<()> {
-    if is_same(argument, b"--help") {
+    if argument == b"--help".as_slice() {
         return write_usage(rt);
     }
     match open(rt, argument) {
@@ -59,21 +57,6 @@ fn open<R: Files>(rt: &R, name: &[u8]) -> io::Result<R::File> {
     }
 }
 
-// Whether two words are the same.
-fn is_same(word: &[u8], other: &[u8]) -> bool {
-    if word.len() != other.len() {
-        return false;
-    }
-    let mut i = 0;
-    while i < word.len() {
-        if word[i] != other[i] {
-            return false;
-        }
-        i += 1;
-    }
-    true
-}
-
 // Decodes the recording that an input gives, or says why it cannot be read. A recording has at most 65,536 bytes, so one byte more
 // tells that it is too long.
 fn decode_from<R: Print + AllocGlobal>(
@@ -83,7 +66,7 @@ fn decode_from<R: Print + AllocGlobal>(
     name: &[u8],
 ) -> io::Result<()> {
     let mut file = [0u8; FILE_ROOM];
-    match read_all(input, &mut file) {
+    match read_full(input, &mut file) {
         Ok(count) => write_output(rt, errors, &file[..count]),
         Err(error) => fail(rt, errors, name, error),
     }
@@ -94,12 +77,10 @@ fn write_output<R: Print + AllocGlobal>(rt: &R, errors: &Stderr, file: &[u8]) ->
     let mut coefficients = [0i32; AREA_MOST];
     let mut work = [0i32; AREA_MOST];
     let mut samples = [0i32; AREA_MOST];
-    let mut text = [0u8; TEXT_ROOM];
+    let mut text = TextBuffer::<TEXT_ROOM>::new();
     let entries = entry_count(file);
-    let parts = part_count(entries);
-    let mut k = 0;
-    while k < parts {
-        let count = output_part(
+    for k in 0..part_count(entries) {
+        output_part(
             file,
             entries,
             k,
@@ -108,10 +89,9 @@ fn write_output<R: Print + AllocGlobal>(rt: &R, errors: &Stderr, file: &[u8]) ->
             &mut samples,
             &mut text,
         );
-        if let Err(error) = rt.write_all(&text[..count]) {
+        if let Err(error) = rt.write_all(text.as_bytes()) {
             return fail(rt, errors, b"standard output", error);
         }
-        k += 1;
     }
     Ok(())
 }

@@ -10,9 +10,10 @@ ghost use Rattle.low_delay.specs.Job.{outcome as low_delay_outcome, unpacked as 
 ghost use Rattle.transform_c.specs.Interface.{parameters_of, answer_of};
 ghost use Rattle.kafsillun_c.specs.Interface.{low_delay_of};
 
+use component::parameters::{Answer, Parameters};
 use low_delay::parameters::LowDelay;
 use slices::parameters::Picture;
-use transform_c::{KafsillunAnswer, KafsillunParameters, answer_of, parameters_of};
+use transform_c::{KafsillunAnswer, KafsillunParameters};
 
 // unpack::unpack: coefficients from bytes.
 #[unsafe(no_mangle)]
@@ -23,8 +24,8 @@ pub extern "C" fn kafsillun_unpack(
 ) -> KafsillunAnswer
     ensures { unpack_outcome (answer_of result) coefficients.new ≡ unpacked (parameters_of p) bytes.now coefficients.old }
 {
-    let answer = unpack::unpack(parameters_of(p), bytes, coefficients);
-    answer_of(answer)
+    let answer = unpack::unpack(Parameters::from(p), bytes, coefficients);
+    KafsillunAnswer::from(Answer::from(answer))
 }
 
 // transform_c::kafsillun_synthesise: samples from coefficients. An archive exports the functions of its own crate alone, so it stands here
@@ -54,8 +55,8 @@ pub extern "C" fn kafsillun_decode(
     ensures { decode_outcome (answer_of result) coefficients.new work.new samples.new
         ≡ decoded (parameters_of p) bytes.now coefficients.old work.old samples.old }
 {
-    let answer = decode::decode(parameters_of(p), bytes, coefficients, work, samples);
-    answer_of(answer)
+    let answer = decode::decode(Parameters::from(p), bytes, coefficients, work, samples);
+    KafsillunAnswer::from(Answer::from(answer))
 }
 
 // The parameters of a picture in low delay slices, as C passes them. An intra flag that is not 0 says yes.
@@ -76,25 +77,28 @@ pub struct KafsillunLowDelay {
 }
 
 // The parameters that those of C stand for.
-fn low_delay_of(p: KafsillunLowDelay) -> LowDelay
-    ensures { result ≡ low_delay_of p }
-{
-    let matrix = p.matrix;
-    let picture = Picture {
-        luma_width: p.luma_width,
-        luma_height: p.luma_height,
-        chroma_width: p.chroma_width,
-        chroma_height: p.chroma_height,
-        depth: p.depth,
-        intra: p.intra != 0,
-        slices_across: p.slices_across,
-        slices_down: p.slices_down,
-        matrix,
-    };
-    LowDelay {
-        picture,
-        numerator: p.numerator,
-        denominator: p.denominator,
+impl From<KafsillunLowDelay> for LowDelay {
+    ghost from_gives = { λ p q. q ≡ low_delay_of p };
+
+    #[tactic(auto, unfolding(crate::specs::Interface::low_delay_of))]
+    fn from(p: KafsillunLowDelay) -> LowDelay {
+        let matrix = p.matrix;
+        let picture = Picture {
+            luma_width: p.luma_width,
+            luma_height: p.luma_height,
+            chroma_width: p.chroma_width,
+            chroma_height: p.chroma_height,
+            depth: p.depth,
+            intra: p.intra != 0,
+            slices_across: p.slices_across,
+            slices_down: p.slices_down,
+            matrix,
+        };
+        LowDelay {
+            picture,
+            numerator: p.numerator,
+            denominator: p.denominator,
+        }
     }
 }
 
@@ -112,11 +116,11 @@ pub extern "C" fn kafsillun_unpack_low_delay(
         (planes_of luma.old first_chroma.old second_chroma.old) }
 {
     let answer = low_delay::unpack_low_delay(
-        low_delay_of(p),
+        LowDelay::from(p),
         bytes,
         luma,
         first_chroma,
         second_chroma,
     );
-    answer_of(answer)
+    KafsillunAnswer::from(Answer::from(answer))
 }

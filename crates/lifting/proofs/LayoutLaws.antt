@@ -8,7 +8,6 @@ use mathlib.Core.List.{List, map}
 use Prim.Native.Nat.{ℕ, ◌+◌, ◌*◌, ◌≤◌, ◌<◌, suc, ◌-◌, min}
 use native.Mathlib.Omega.{arith}
 use native.Mathlib.Nat.{add-zero}
-use native.Mathlib.Decide.{dec_lt}
 use lib.IntN.{ℤ, pos}
 use lib.ListN.{length, get_or}
 use Rattle.base.specs.Fill.{fill}
@@ -161,13 +160,3 @@ pub row-interleaved :
     → fill plane to count (λ x. shifted asked (interleaved halves x)) ≡ fill plane to count (interleaved_row steps shift half start work)
 row-interleaved steps shift half start work halves asked same done plane to count part =
     fill-same plane to _ (interleaved_row steps shift half start work) count (λ x inside. rw (same, done x (omega arith)))
-
--- A row of a picture of n columns, cropped to a height: the count of its numbers, and their room in a plane.
-pub crop-room :
-    (row height n count room : ℕ) → height * n ≤ room → (row < height → count ≡ n) → (height ≤ row → count ≡ 0)
-    → (count ≤ n) × (row * count + count ≤ room)
-crop-room row height n count room inside counted none =
-    elim (dec_lt row height) [
-      | yes less ↦ rw (counted less) (omega arith, omega (arith, row_room n row height less))
-      | no not_less ↦ rw (none (omega arith)) (omega arith, omega arith)
-    ]

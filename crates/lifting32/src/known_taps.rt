@@ -10,7 +10,6 @@ ghost use Rattle.lifting32.specs.Pairs.{PairTapsFit};
 use crate::loops::{lift_one, lift_pairs};
 use crate::pairs::pair_tap;
 use crate::{LineStep, PairedLine};
-use base::signed;
 
 // Lifts a line by one tap: Haar's is 1.
 pub fn lift_single(
@@ -24,7 +23,7 @@ pub fn lift_single(
     ensures { plane.new ≡ lifted_by_taps plane.old line taps.now starts.now 1 adds }
 {
     let source = starts[0];
-    let tap = signed::narrow(taps[0]);
+    let tap = taps[0] as i32;
     if tap == 1 {
         if adds {
             lift_one(plane, line, source, tap, adds);
@@ -37,6 +36,7 @@ pub fn lift_single(
 }
 
 // Lifts a line by one pair of taps: of LeGall (5,3) and Deslauriers-Dubuc (9,7), which are 1, or of Daubechies (9,7), which are long.
+#[tactic(auto, using(crate::proofs::LiftableLaws::widened))]
 pub fn lift_one_pair(plane: &mut [i32], paired: PairedLine, tap: i32, adds: bool, narrow: bool)
     requires { LiftableByPairs plane.old paired tap (pos 0) (pos 0) (pos 0) adds narrow }
     ensures { plane.new ≡ lifted_by_pairs plane.old paired tap (pos 0) (pos 0) (pos 0) adds }

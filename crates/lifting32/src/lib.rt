@@ -2,7 +2,6 @@
 // the exact sums give.
 #![tactic(auto)]
 
-pub mod arithmetic;
 pub mod known_taps;
 pub mod loops;
 pub mod pairs;

@@ -5,7 +5,6 @@ ghost use Rattle.lines.specs.Sums.{changed};
 ghost use Rattle.lifting32.specs.Liftable.{LiftableByOne, lifted_by_one, LiftableByPairs, lifted_by_pairs};
 ghost use Rattle.lifting32.specs.Pairs.{FourPairsFit, pair_sum, PairFits, pair_at, OnePairFits, pair_of, ProductFits};
 
-use crate::arithmetic::{add, as_16_bits, mul, shift_down, sub};
 use crate::{LineStep, PairedLine};
 
 // Lifts a line by one tap.
@@ -17,11 +16,9 @@ pub fn lift_one(plane: &mut [i32], line: LineStep, source: usize, tap: i32, adds
     let width = line.width;
     let round = line.round;
     let scale = line.scale;
-    let mut x = 0;
-    while x < width {
+    for x in 0..width {
         let sum = with_product(round, tap, plane[source + x], false);
         plane[start + x] = lifted(plane[start + x], sum, scale, adds);
-        x += 1;
     }
 }
 
@@ -44,11 +41,9 @@ pub fn lift_pairs(
     let start = line.start;
     let width = line.width;
     let scale = line.scale;
-    let mut x = 0;
-    while x < width {
+    for x in 0..width {
         let sum = pair_sum(plane, paired, x, t0, t1, t2, t3, narrow);
         plane[start + x] = lifted(plane[start + x], sum, scale, adds);
-        x += 1;
     }
 }
 
@@ -100,25 +95,27 @@ fn with_pair(sum: i32, plane: &[i32], a: usize, b: usize, tap: i32, narrow: bool
     requires { OnePairFits narrow sum tap plane.now a b }
     ensures { result ≡ sum +ℤ tap *ℤ pair_of plane.now a b }
 {
-    with_product(sum, tap, add(plane[a], plane[b]), narrow)
+    with_product(sum, tap, plane[a] + plane[b], narrow)
 }
 
-// A sum with a tap times a number added.
+// A sum with a tap times a number added. A number that is known to fit 16 bits is multiplied by one instruction.
 fn with_product(sum: i32, tap: i32, v: i32, narrow: bool) -> i32
     requires { ProductFits narrow sum tap v }
     ensures { result ≡ sum +ℤ tap *ℤ v }
 {
     if narrow {
-        return add(sum, mul(tap, as_16_bits(v)));
+        return sum + tap * i32::from(v as i16);
     }
-    add(sum, mul(tap, v))
+    sum + tap * v
 }
 
-// A number with a sum, divided by 2^scale, added or subtracted.
+// A number with a sum, divided by 2^scale, added or subtracted. Unlike the function of 64 bits in `lines::sums` it asks that the new number fits, so one
+// for both would be longer than the two.
+#[tactic(auto, unfolding(lines::specs::Sums::changed, base::specs::Range::fits32))]
 fn lifted(v: i32, sum: i32, scale: u32, adds: bool) -> i32
     requires { (scale < 32) × (fits32 (changed adds scale v sum) ≡ true) }
     ensures { result ≡ changed adds scale v sum }
 {
-    let update = shift_down(sum, scale);
-    if adds { add(v, update) } else { sub(v, update) }
+    let update = sum >> scale;
+    if adds { v + update } else { v - update }
 }

@@ -4,15 +4,15 @@ ghost use Rattle.std.specs.Prelude.{◌≡◌, ◌≤◌, ◌<◌};
 ghost use Rattle.lifting32.specs.Pairs.{PairTapsFit, pair_tap, PairedFrom, pair_index, pair_or_middle};
 
 use crate::{LineStep, PairedLine};
-use base::signed;
 
 // The tap of pair j.
+#[tactic(auto, unfolding(crate::specs::Pairs::pair_tap))]
 pub fn pair_tap(taps: &[i64; 8], half: usize, j: usize) -> i32
     requires { PairTapsFit taps.now half }
     ensures { result ≡ pair_tap taps.now half j }
 {
     if j < half {
-        return signed::narrow(taps[half - 1 - j]);
+        return taps[half - 1 - j] as i32;
     }
     0
 }
@@ -23,15 +23,14 @@ pub fn paired_line(line: LineStep, starts: &[usize; 8], half: usize) -> PairedLi
     ensures { PairedFrom line starts.now half result }
 {
     let mut indices = [0usize; 8];
-    let mut j = 0;
-    while j < 8 {
-        indices[j] = pair_index(starts, half, j);
-        j += 1;
+    for (j, index) in indices.iter_mut().enumerate() {
+        *index = pair_index(starts, half, j);
     }
     PairedLine { line, indices }
 }
 
 // Where entry j of that list reads from.
+#[tactic(auto, unfolding(crate::specs::Pairs::pair_index, crate::specs::Pairs::pair_or_middle))]
 fn pair_index(starts: &[usize; 8], half: usize, j: usize) -> usize
     requires { (1 ≤ half) × (half ≤ 4) × (j < 8) }
     ensures { result ≡ pair_index starts.now half j }
@@ -43,6 +42,7 @@ fn pair_index(starts: &[usize; 8], half: usize, j: usize) -> usize
 }
 
 // The pair, or the middle one where there is no such pair.
+#[tactic(auto, unfolding(crate::specs::Pairs::pair_or_middle))]
 fn pair_or_middle(half: usize, j: usize) -> usize
     ensures { result ≡ pair_or_middle half j }
 {

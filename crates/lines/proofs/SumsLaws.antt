@@ -1,33 +1,20 @@
 -- Laws of sums of taps: one tap more, and sizes that stay within 64 bits.
 -- Assumes nothing.
 use mathlib.Core.Path.{◌≡◌, refl, sym, ap, ◌∙◌}
-use mathlib.Core.Bool.{true}
 use mathlib.Core.List.{List, [], ◌∷◌}
 use Prim.Native.Nat.{ℕ, zero, suc, ◌+◌, ◌-◌, ◌*◌, ◌^◌, ◌≤◌, ◌<◌}
 use native.Mathlib.Numerals.{add-one}
 use native.Mathlib.Decide.{dec_lt}
 use native.Mathlib.Nat.{le_refl, add-mul, mul-le-mul_right}
 use native.Mathlib.Omega.{arith}
-use lib.IntN.{ℤ, pos, nat_abs, ◌+ℤ◌, ◌-ℤ◌, ◌*ℤ◌, negsuc, +ℤ_idl, +ℤ_idr, +ℤ_assoc, +ℤ_comm, zero-*ℤ, suc_ℤ-*ℤ, *ℤ_comm, *ℤ-negsuc, neg_ℤ, neg_ℤ-+ℤ}
+use lib.IntN.{ℤ, pos, nat_abs, ◌+ℤ◌, ◌*ℤ◌, negsuc, +ℤ_idl, +ℤ_idr, +ℤ_assoc, +ℤ_comm, zero-*ℤ, suc_ℤ-*ℤ, *ℤ_comm, *ℤ-negsuc, neg_ℤ, neg_ℤ-+ℤ}
 use lib.ListN.{length, get_or, get_or-eq_default, take}
 use lib.Signed.{mag}
 use Rattle.base.specs.Fill.{fill}
-use Rattle.base.specs.Floor.{floor_div}
-use Rattle.base.specs.Range.{fits32}
 use Rattle.base.proofs.FillLaws.{length-fill, get_d-fill-start}
-use Rattle.base.proofs.RangeLaws.{below-fits32}
-use Rattle.base.proofs.Integers.{mag-size, size-mag, size-add, size-sub, size-mul, size-mul-most}
-use Rattle.base.proofs.FloorLaws.{size-floor}
+use Rattle.base.proofs.Integers.{mag-size, size-mag, size-add, size-mul, size-mul-most}
 use Rattle.lines.specs.Buffers.{Below}
 use Rattle.lines.specs.Sums.{sum_below, sizes_below}
-
--- a plane's entry with a quotient of a sum added or subtracted fits 64 bits
-module _ (v sum : ℤ) (d : ℕ) (hv : mag v < 2 ^ 31) (hs : nat_abs sum ≤ 2 ^ 48) where
-  pub added-small : mag (v +ℤ floor_div sum d) < 2 ^ 63
-  added-small = omega (arith, mag-size (v +ℤ floor_div sum d), size-add v (floor_div sum d), size-mag v, size-floor sum d)
-
-  pub subtracted-small : mag (v -ℤ floor_div sum d) < 2 ^ 63
-  subtracted-small = omega (arith, mag-size (v -ℤ floor_div sum d), size-sub v (floor_div sum d), size-mag v, size-floor sum d)
 
 -- a tap times a plane's entry is at most 2^44 in size, and fits 64 bits, also added to a sum
 pub product_small : (tap v : ℤ) → nat_abs tap ≤ 2 ^ 13 → mag v < 2 ^ 31 → nat_abs (tap *ℤ v) ≤ 2 ^ 44
@@ -97,10 +84,6 @@ tap-size tap a some =
 
 pub pair_size : (tap a b : ℤ) → nat_abs (tap *ℤ (a +ℤ b)) ≤ nat_abs (tap *ℤ a) + nat_abs (tap *ℤ b)
 pair_size tap a b = rw (distributes tap a b) (size-add (tap *ℤ a) (tap *ℤ b))
-
--- a number below 2^31 in size fits 32 bits
-pub size-fits32 : (z : ℤ) → nat_abs z < 2 ^ 31 → fits32 z ≡ true
-size-fits32 z h = below-fits32 z (omega (arith, mag-size z))
 
 -- sums of the same numbers
 pub sum_same : (f g : ℕ → ℤ) (n : ℕ) → ((i : ℕ) → i < n → f i ≡ g i) → sum_below f n ≡ sum_below g n

@@ -10,10 +10,8 @@ pub fn measure(line: &[i32], start: usize, width: usize) -> u32
     ensures { Within line.now start width (suc result) }
 {
     let mut most = 0u32;
-    let mut x = 0;
-    while x < width {
-        most = join(most, magnitude(line[start + x]));
-        x += 1;
+    for v in &line[start..start + width] {
+        most = join(most, magnitude(*v));
     }
     most
 }
@@ -25,17 +23,16 @@ pub fn copy_measured(plane: &mut [i32], start: usize, source: &[i32], from: usiz
     ensures measured { Within source.now from n (suc result) }
 {
     let mut most = 0u32;
-    let mut x = 0;
-    while x < n {
+    for x in 0..n {
         let v = source[from + x];
         plane[start + x] = v;
         most = join(most, magnitude(v));
-        x += 1;
     }
     most
 }
 
 // A number that is at least as large as either.
+#[tactic(auto, using(std::proofs::lemmas::Nat::le_or_l, std::proofs::lemmas::Nat::le_or_r))]
 pub fn join(a: u32, b: u32) -> u32
     ensures { (a ≤ result) × (b ≤ result) }
 {
@@ -46,5 +43,5 @@ pub fn join(a: u32, b: u32) -> u32
 fn magnitude(v: i32) -> u32
     ensures { result ≡ mag v }
 {
-    if v < 0 { (-1 - v) as u32 } else { v as u32 }
+    if v < 0 { !v as u32 } else { v as u32 }
 }

@@ -14,13 +14,10 @@ use borrow.Author.Tests.{eqb-true, ltb-true, eq-eqb, ne_eqb}
 use Rattle.base.specs.Every.{all_below}
 use Rattle.base.proofs.EveryLaws.{all-at}
 use Rattle.base.proofs.Booleans.{and_left, and_right}
-use Rattle.exp_golomb.specs.Bits.{bit_at, bits_from, present, take_bit}
-use Rattle.exp_golomb.specs.Codes.{code_from, unsigned, signed}
+use Rattle.exp_golomb.specs.Bits.{Taken, bit_at, bits_from, present, take_bit}
+use Rattle.exp_golomb.specs.Codes.{Number, Read, Missing, TooLong, code_from, unsigned, signed}
 use Rattle.lookups.specs.Windows.{Ahead}
 use Rattle.lookups.specs.Lookups.{Describes, KnowsCodes, lookup_of}
-use Rattle.exp_golomb.specs.declared.bits.Bit.TheVariants.{Taken}
-use Rattle.exp_golomb.specs.declared.codes.Number.{Number}
-use Rattle.exp_golomb.specs.declared.codes.Number.TheVariants.{Read, Missing, TooLong}
 use Rattle.lookups.specs.declared.Lookup.{Lookup}
 use Rattle.exp_golomb.proofs.BitsLaws.{take-present, unstated-taken}
 use Rattle.exp_golomb.proofs.CodesLaws.{code-ends, sign-none}

@@ -2,7 +2,7 @@
 -- Assumes nothing.
 use mathlib.Core.Path.{◌≡◌, refl, sym, ap, ◌∙◌}
 use mathlib.Core.Bool.{Bool, true, false}
-use mathlib.Core.List.{List}
+use mathlib.Core.List.{List, [], ◌∷◌}
 use Prim.Native.Nat.{ℕ, zero, suc, ◌+◌, ◌-◌, ◌*◌, ◌/◌, ◌%◌, ◌^◌, ◌≤◌, ◌<◌, min}
 use native.Mathlib.Nat.{add-zero, zero-add, add-suc, div-one, mul_assoc, pow-suc, mul-div-mul_right}
 use native.Mathlib.Numerals.{add-one}
@@ -12,6 +12,7 @@ use lib.Dec.{leb, ltb}
 use lib.ListN.{length, get_or}
 use lib.Pow.{pow_pos, pow-add, high, low, field, shr-shr}
 use borrow.Author.Tests.{ltb-true, leb-true, lt-ltb, le-leb, lt-leb}
+use Rattle.std.specs.Int.{w64, from_be_bytes}
 use Rattle.base.proofs.Booleans.{and_left, and_right}
 use Rattle.exp_golomb.specs.Bits.{bit_at, bits_from, present}
 use Rattle.exp_golomb.specs.Begins.{Begins}
@@ -87,34 +88,34 @@ module _ (bytes : List ℕ) where
   pub byte-bits : (k : ℕ) → get_or bytes k 0 < 256 → bits (8 * k) 8 ≡ get_or bytes k 0
   byte-bits k small = byte-part k 8 0 small refl ∙ div-one (get_or bytes k 0)
 
-  -- four bytes are their 32 bits
-  pub four-bits : (k b₀ b₁ b₂ b₃ : ℕ) → b₀ < 256 → b₁ < 256 → b₂ < 256 → b₃ < 256 →
-      b₀ ≡ get_or bytes k 0 → b₁ ≡ get_or bytes (k + 1) 0 → b₂ ≡ get_or bytes (k + 2) 0 → b₃ ≡ get_or bytes (k + 3) 0 →
-      b₀ * 16777216 + b₁ * 65536 + b₂ * 256 + b₃ ≡ bits (8 * k) 32
-  four-bits k b₀ b₁ b₂ b₃ l₀ l₁ l₂ l₃ e₀ e₁ e₂ e₃ =
-      let p₁ : 8 * k + 8 ≡ 8 * (k + 1) = omega arith in
-      let p₂ : 8 * k + 16 ≡ 8 * (k + 2) = omega arith in
-      let p₃ : 8 * k + 24 ≡ 8 * (k + 3) = omega arith in
-      let f₀ = byte-bits k (omega arith) in
-      let f₁ : bits (8 * k + 8) 8 ≡ get_or bytes (k + 1) 0 = rw p₁ (byte-bits (k + 1) (omega arith)) in
-      let f₂ : bits (8 * k + 16) 8 ≡ get_or bytes (k + 2) 0 = rw p₂ (byte-bits (k + 2) (omega arith)) in
-      let f₃ : bits (8 * k + 24) 8 ≡ get_or bytes (k + 3) 0 = rw p₃ (byte-bits (k + 3) (omega arith)) in
-      let s₁ : bits (8 * k) 16 ≡ bits (8 * k) 8 * 256 + bits (8 * k + 8) 8 = bits-split (8 * k) 8 8 in
-      let s₂ : bits (8 * k) 24 ≡ bits (8 * k) 16 * 256 + bits (8 * k + 16) 8 = bits-split (8 * k) 16 8 in
-      let s₃ : bits (8 * k) 32 ≡ bits (8 * k) 24 * 256 + bits (8 * k + 24) 8 = bits-split (8 * k) 24 8 in
+  -- eight bytes are their 64 bits
+  abbrev eight_from : ℕ → List ℕ
+  eight_from k =
+      get_or bytes k 0 ∷ get_or bytes (k + 1) 0 ∷ get_or bytes (k + 2) 0 ∷ get_or bytes (k + 3) 0 ∷ get_or bytes (k + 4) 0 ∷ get_or bytes (k + 5) 0
+      ∷ get_or bytes (k + 6) 0 ∷ get_or bytes (k + 7) 0 ∷ []
+
+  -- one byte more
+  byte-more : (k n : ℕ) → ((i : ℕ) → get_or bytes i 0 < 256) → bits (8 * k) (8 * n + 8) ≡ bits (8 * k) (8 * n) * 256 + get_or bytes (k + n) 0
+  byte-more k n small =
+      let place : 8 * k + 8 * n ≡ 8 * (k + n) = omega arith in
+      rw (bits-split (8 * k) (8 * n) 8, place, byte-bits (k + n) (small (k + n))) refl
+
+  eight-bytes : (k : ℕ) → ((i : ℕ) → get_or bytes i 0 < 256) → from_be_bytes w64 (eight_from k) ≡ bits (8 * k) 64
+  eight-bytes k small =
+      let f₀ : bits (8 * k) 8 ≡ get_or bytes k 0 = byte-bits k (small k) in
+      let f₁ : bits (8 * k) 16 ≡ bits (8 * k) 8 * 256 + get_or bytes (k + 1) 0 = byte-more k 1 small in
+      let f₂ : bits (8 * k) 24 ≡ bits (8 * k) 16 * 256 + get_or bytes (k + 2) 0 = byte-more k 2 small in
+      let f₃ : bits (8 * k) 32 ≡ bits (8 * k) 24 * 256 + get_or bytes (k + 3) 0 = byte-more k 3 small in
+      let f₄ : bits (8 * k) 40 ≡ bits (8 * k) 32 * 256 + get_or bytes (k + 4) 0 = byte-more k 4 small in
+      let f₅ : bits (8 * k) 48 ≡ bits (8 * k) 40 * 256 + get_or bytes (k + 5) 0 = byte-more k 5 small in
+      let f₆ : bits (8 * k) 56 ≡ bits (8 * k) 48 * 256 + get_or bytes (k + 6) 0 = byte-more k 6 small in
+      let f₇ : bits (8 * k) 64 ≡ bits (8 * k) 56 * 256 + get_or bytes (k + 7) 0 = byte-more k 7 small in
       omega arith
 
-  -- twice four bytes are 64 bits
-  eight-bits : (k high low : ℕ) → high ≡ bits (8 * k) 32 → low ≡ bits (8 * (k + 4)) 32 → high * 4294967296 + low ≡ bits (8 * k) 64
-  eight-bits k high low e₀ e₁ =
-      let place : 8 * (k + 4) ≡ 8 * k + 32 = omega arith in
-      rw (e₀, e₁, place) (sym (bits-split (8 * k) 32 32))
-
-  -- shifted up to a bit of the first of them, they are a window
-  pub window-whole : (at high low : ℕ) → high ≡ bits (8 * (at / 8)) 32 → low ≡ bits (8 * (at / 8 + 4)) 32 →
-      (high * 4294967296 + low) * 2 ^ (at % 8) % 2 ^ 64 ≡ window_of bytes at
+  -- and eight their 64, so that eight bytes, shifted up to a bit of the first of them, are a window
+  pub window-whole : (at : ℕ) → ((k : ℕ) → get_or bytes k 0 < 256) → from_be_bytes w64 (eight_from (at / 8)) * 2 ^ (at % 8) % 2 ^ 64 ≡ window_of bytes at
   unfolding window_of
-  window-whole at high low e₀ e₁ = rw (eight-bits (at / 8) high low e₀ e₁) refl
+  window-whole at small = rw (eight-bytes (at / 8) small) refl
 
   -- the top 56 of a window are the next 56 bits
   pub window-top : (at : ℕ) → window_of bytes at / 256 ≡ bits at 56

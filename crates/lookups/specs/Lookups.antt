@@ -1,8 +1,7 @@
 -- The code's own forms: what a table describes of eight bits. No definition of the format rests on them.
 use Rattle.std.specs.Prelude.{ℕ, ◌+◌, ◌/◌, ◌%◌, ◌≤◌, ◌<◌, ◌≡◌, ◌≢◌, false, List, [], ◌∷◌, eqb, get_or}
 use Rattle.exp_golomb.specs.Bits.{bit_at}
-use Rattle.exp_golomb.specs.Codes.{signed}
-use Rattle.exp_golomb.specs.declared.codes.Number.TheVariants.{Read, Missing}
+use Rattle.exp_golomb.specs.Codes.{Read, Missing, signed}
 use Rattle.lookups.specs.declared.Lookup.{Lookup}
 
 -- A lookup is right of eight bits, taken as data of their own: ones start them, as many as the zeros; then there is no value, as

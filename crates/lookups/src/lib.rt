@@ -1,13 +1,12 @@
 // The next bits of data as one number, and what a table tells of eight of them.
 #![tactic(auto)]
 
-ghost use Rattle.std.specs.Prelude.{◌≡◌, ◌≢◌, ◌+◌, ◌-◌, ◌*◌, ◌/◌, ◌^◌, ◌≤◌, ◌<◌, eqb, length};
-ghost use Rattle.exp_golomb.specs.Bits.{bits_from};
+ghost use Rattle.std.specs.Prelude.{◌≡◌, ◌≢◌, ◌+◌, ◌-◌, ◌/◌, ◌^◌, ◌≤◌, ◌<◌, eqb, length};
 ghost use Rattle.lookups.specs.Windows.{is_window, window_of};
 ghost use Rattle.lookups.specs.Lookups.{KnowsCodes, Describes};
 
-// What eight bits tell: so many zeros, with or without one more value, and the bits of all of them. The value is twice its
-// size, and one more where it is below 0. No bits stand for a code that does not end in the eight.
+// What eight bits tell: so many zeros, with or without one more value, and the bits of all of them. The value is twice its size, and one more
+// where it is below 0. Where no code ends in the eight there are no bits: that is their count, and an Option beside it would say no more.
 #[derive(Clone, Copy)]
 pub struct Lookup {
     pub zeros: usize,
@@ -16,43 +15,52 @@ pub struct Lookup {
     pub bits: usize,
 }
 
+impl Lookup {
+    // The value of the first code, and its bits: a zero has one.
+    pub fn first_value(self) -> usize
+        ensures { (self.zeros ≢ 0 → result ≡ 0) × (self.zeros ≡ 0 → result ≡ self.value) }
+    {
+        if 0 < self.zeros {
+            return 0;
+        }
+        self.value
+    }
+
+    pub fn first_bits(self) -> usize
+        ensures { (self.zeros ≢ 0 → result ≡ 1) × (self.zeros ≡ 0 → result ≡ self.bits) }
+    {
+        if 0 < self.zeros {
+            return 1;
+        }
+        self.bits
+    }
+}
+
 // Whether the next 56 bits are there, in eight bytes.
 pub fn is_window(bytes: &[u8], end: usize, at: usize) -> bool
     ensures { result ≡ is_window bytes.now end at }
 {
-    if end < 56 {
-        return false;
-    }
-    at <= end - 56 && at / 8 + 7 < bytes.len()
+    56 <= end && at <= end - 56 && at / 8 + 7 < bytes.len()
 }
 
-// The 64 bits of eight bytes, with those before bit `at` shifted out: the next 56 bits are at the top.
+// The 64 bits of eight bytes, with those before bit `at` shifted out: the next 56 bits are at the top. The bytes named one by one are loaded at
+// once; first_chunk tests their number a second time when it runs.
 pub fn window(bytes: &[u8], at: usize) -> u64
     requires { at / 8 + 7 < length bytes.now }
     ensures { result ≡ window_of bytes.now at }
 {
     let i = at / 8;
-    let high = four_bytes(bytes, i);
-    let low = four_bytes(bytes, i + 4);
-    (high * 4294967296 + low) << (at % 8)
-}
-
-// Four bytes as one number, the first at its top.
-fn four_bytes(bytes: &[u8], i: usize) -> u64
-    requires { i + 3 < length bytes.now }
-    ensures { (result < 4294967296) × (result ≡ bits_from bytes.now (8 * i) 32) }
-{
-    wide(bytes[i]) * 16777216
-        + wide(bytes[i + 1]) * 65536
-        + wide(bytes[i + 2]) * 256
-        + wide(bytes[i + 3])
-}
-
-// A byte with room for more.
-fn wide(byte: u8) -> u64
-    ensures { (result ≡ byte) × (result < 256) }
-{
-    byte as u64
+    let eight = [
+        bytes[i],
+        bytes[i + 1],
+        bytes[i + 2],
+        bytes[i + 3],
+        bytes[i + 4],
+        bytes[i + 5],
+        bytes[i + 6],
+        bytes[i + 7],
+    ];
+    u64::from_be_bytes(eight) << (at % 8)
 }
 
 // Whether a window starts with n ones, each the code of a 0.
@@ -63,52 +71,32 @@ pub fn starts_with_ones(w: u64, n: usize) -> bool
     (w >> (64 - n)) + 1 == 1u64 << n
 }
 
-// What the table tells of the eight bits that start a window.
-pub fn lookup_at(table: &[u16; 256], w: u64) -> Lookup
-    requires { KnowsCodes table.now }
-    ensures { Describes (w / 2 ^ 56) result }
-{
-    let c = (w >> 56) as usize;
-    let entry = as_usize(table[c]);
-    Lookup {
-        zeros: entry / 16 % 16,
-        count: entry / 16 % 16 + entry / 256 % 2,
-        value: entry / 512,
-        bits: entry % 16,
+// A table that is right of any eight bits.
+#[derive(Drop)]
+pub struct CodeTable {
+    pub entries: [u16; 256],
+    ghost knows: { KnowsCodes entries },
+}
+
+impl CodeTable {
+    // The table of all codes that end in eight bits.
+    pub fn new() -> CodeTable {
+        CodeTable { entries: ENTRIES }
     }
-}
 
-// Of what a lookup tells, the value of the first code, and its bits: a zero has one.
-pub fn first_value(lookup: Lookup) -> usize
-    ensures { (lookup.zeros ≢ 0 → result ≡ 0) × (lookup.zeros ≡ 0 → result ≡ lookup.value) }
-{
-    if 0 < lookup.zeros {
-        return 0;
+    // What it tells of the eight bits that start a window.
+    pub fn look_up(&self, w: u64) -> Lookup
+        ensures { Describes (w / 2 ^ 56) result }
+    {
+        let c = (w >> 56) as usize;
+        let entry = usize::from(self.entries[c]);
+        Lookup {
+            zeros: entry / 16 % 16,
+            count: entry / 16 % 16 + entry / 256 % 2,
+            value: entry / 512,
+            bits: entry % 16,
+        }
     }
-    lookup.value
-}
-
-pub fn first_bits(lookup: Lookup) -> usize
-    ensures { (lookup.zeros ≢ 0 → result ≡ 1) × (lookup.zeros ≡ 0 → result ≡ lookup.bits) }
-{
-    if 0 < lookup.zeros {
-        return 1;
-    }
-    lookup.bits
-}
-
-// An entry, for sums.
-fn as_usize(entry: u16) -> usize
-    ensures { result ≡ entry }
-{
-    entry as usize
-}
-
-// The table of all eight bits.
-pub fn lookup_table() -> [u16; 256]
-    ensures { KnowsCodes result }
-{
-    ENTRIES
 }
 
 // The value, whether there is one, the zeros and the bits, each in a part of an entry: 512 · value + 256 · one + 16 · zeros + bits.

@@ -9,6 +9,8 @@ use lib.Dec.{leb}
 use lib.IntN.{ℤ}
 use lib.ListN.{length}
 use borrow.Author.Tests.{lt-ltb, le-ltb, leb-true}
+use Rattle.std.specs.Prelude.{Ok, Err}
+use Rattle.base.specs.declared.status.Refusal.TheVariants.{Quantiser, LumaLength}
 use Rattle.base.proofs.EveryLaws.{all-at}
 use Rattle.component.specs.Subbands.{subband_count}
 use Rattle.exp_golomb.specs.Bits.{bits_from}
@@ -19,8 +21,8 @@ use Rattle.slices.specs.Bounds.{Indexed}
 use Rattle.slices.specs.declared.parameters.Picture.{Picture}
 use Rattle.low_delay.specs.Slices.{length_bits, low_delay_parts}
 use Rattle.low_delay.specs.Job.{predicted_plane}
+use Rattle.low_delay.specs.declared.headers.Header.{Header}
 use Rattle.low_delay.specs.Bounds.{parts_of, SoundParts, prediction_fits, predicted_planes}
-use Rattle.low_delay.specs.declared.headers.Header.TheVariants.{Refused, Read}
 
 -- the index of every subband is in range where the test says so
 pub indexed : (p : Picture) (index : ℕ) → indices_fit p index ≡ true → Indexed p index
@@ -30,21 +32,24 @@ indexed p index fit =
 
 -- a header: its index, the bits that luma's length has, and the length
 module _ (p : Picture) (bytes : List ℕ) (start index n luma : ℕ) (index_is : index ≡ bits_from bytes 0 7) (n-is : n ≡ length_bits (length bytes)) (luma-is : luma ≡ bits_from bytes 7 n) where
-  pub header-long : 8 * length bytes < 7 + n + luma → parts_of bytes start (Refused 14 (start + (7 + n))) ≡ low_delay_parts p (length bytes) bytes start
+  pub header-long : 8 * length bytes < 7 + n + luma → parts_of bytes start (Err (record { refusal = LumaLength; bit = start + (7 + n) })) ≡ low_delay_parts p (length bytes) bytes start
   unfolding low_delay_parts
   header-long long = rw (← n-is, ← luma-is, lt-ltb _ _ long)
 
   module _ (inside : 7 + n + luma ≤ 8 * length bytes) where
-    pub header-index : indices_fit p index ≡ false → parts_of bytes start (Refused 8 (start + (7 + n))) ≡ low_delay_parts p (length bytes) bytes start
+    pub header-index : indices_fit p index ≡ false → parts_of bytes start (Err (record { refusal = Quantiser; bit = start + (7 + n) })) ≡ low_delay_parts p (length bytes) bytes start
     unfolding low_delay_parts
     header-index out = rw (← n-is, ← luma-is, ← index_is, le-ltb _ _ inside, out)
 
     module _ (fit : indices_fit p index ≡ true) where
-      pub header_read : parts_of bytes start (Read index (7 + n) (7 + n + luma)) ≡ low_delay_parts p (length bytes) bytes start
+      abbrev found : Header
+      found = record { index = index; from = 7 + n; middle = 7 + n + luma }
+
+      pub header_read : parts_of bytes start (Ok found) ≡ low_delay_parts p (length bytes) bytes start
       unfolding low_delay_parts
       header_read = rw (← n-is, ← luma-is, ← index_is, le-ltb _ _ inside, fit)
 
-      pub header-sound : SoundParts p (length bytes) index (7 + n) (7 + n + luma)
+      pub header-sound : SoundParts p (length bytes) found
       header-sound = record { forward = omega arith; inside = inside; indexed = indexed p index fit }
 
 -- three planes predicted one after the other, up to one with a value that does not fit

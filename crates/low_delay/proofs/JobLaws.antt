@@ -1,7 +1,7 @@
 -- Laws of the job: what the checks' answer says of the parameters and the planes, and how a call ends after all slices.
 -- Assumes nothing.
 use mathlib.Core.Path.{◌≡◌, refl, sym, ◌∙◌}
-use mathlib.Core.Bool.{Bool, true, false, not, cond, ◌&&◌, and_assoc}
+use mathlib.Core.Bool.{Bool, true, false, not, cond, ◌&&◌}
 use mathlib.Core.Logic.{◌≢◌}
 use mathlib.Core.List.{List}
 use Prim.Native.Nat.{ℕ, suc, ◌+◌, ◌*◌, ◌≤◌}
@@ -17,8 +17,7 @@ use Rattle.component.specs.Checks.{in_range}
 use Rattle.component.specs.Subbands.{subband_at}
 use Rattle.component.specs.declared.subbands.Subband.{Subband}
 use Rattle.component.proofs.ChecksLaws.{range-least, range-most}
-use Rattle.coefficients.specs.Reading.{goes_on}
-use Rattle.coefficients.specs.declared.reading.Progress.TheVariants.{Refused}
+use Rattle.coefficients.specs.Reading.{Refused, goes_on}
 use Rattle.slices.specs.Planes.{Planes, zeros}
 use Rattle.slices.specs.Areas.{luma_grid, chroma_grid, band_slices, slice_count}
 use Rattle.slices.specs.Bounds.{Checked, Lengths, Whole}
@@ -29,12 +28,6 @@ use Rattle.low_delay.specs.Slices.{slice_start, slice}
 use Rattle.low_delay.specs.Job.{LowDelayResult, result, sizes_in_range, counts_in_range, fraction_in_range, matrix_in_range, slices_in_range, entries_of, planes_fit, refusal_of, accepted, predicted, finished, after_slice, slices_from, unpacked}
 use Rattle.low_delay.specs.Bounds.{SoundFraction, prediction_fits, predicted_planes}
 use Rattle.low_delay.specs.declared.parameters.LowDelay.{LowDelay}
-
--- the sizes are those of luma, and those of the chroma pair
-pub sizes-both : (p : Picture) →
-    (in_range 1 4096 p.luma_width && in_range 1 4096 p.luma_height) && (in_range 1 4096 p.chroma_width && in_range 1 4096 p.chroma_height) ≡ sizes_in_range p
-unfolding sizes_in_range
-sizes-both p = sym (and_assoc (in_range 1 4096 p.luma_width && in_range 1 4096 p.luma_height) _ _)
 
 -- a picture that passes its checks
 pub checked : (p : Picture) → sizes_in_range p ≡ true → in_range 0 4 p.depth ≡ true → counts_in_range p ≡ true → Checked p
@@ -106,30 +99,6 @@ pub record ChecksPassed (p : LowDelay) (planes : Planes) : Type 0 where
   pub lengths : Lengths p.picture planes.luma planes.first planes.second
 
 module _ (p : LowDelay) (planes : Planes) where
-  -- each refusal, from the checks before it and its own
-  pub refused-1 : sizes_in_range p.picture ≡ false → 1 ≡ refusal_of p planes
-  unfolding refusal_of
-  refused-1 sizes = rw sizes
-
-  module _ (sizes : sizes_in_range p.picture ≡ true) where
-    pub refused-2 : in_range 0 4 p.picture.depth ≡ false → 2 ≡ refusal_of p planes
-    unfolding refusal_of
-    refused-2 depth = rw (sizes, depth)
-
-    module _ (depth : in_range 0 4 p.picture.depth ≡ true) where
-      pub refused-13 : slices_in_range p ≡ false → 13 ≡ refusal_of p planes
-      unfolding refusal_of
-      refused-13 slices = rw (sizes, depth, slices)
-
-      module _ (slices : slices_in_range p ≡ true) where
-        pub refused-5 : planes_fit p.picture planes ≡ false → 5 ≡ refusal_of p planes
-        unfolding refusal_of
-        refused-5 fit = rw (sizes, depth, slices, fit)
-
-        pub refused_none : planes_fit p.picture planes ≡ true → 0 ≡ refusal_of p planes
-        unfolding refusal_of
-        refused_none fit = rw (sizes, depth, slices, fit)
-
   -- no refusal: every check passed
   pub passed : refusal_of p planes ≡ 0 → ChecksPassed p planes
   unfolding refusal_of
@@ -169,16 +138,15 @@ module _ (p : LowDelay) (planes : Planes) where
     unfolding finished
     finished-predicted = first-chosen p.picture.intra (predicted p planes) (accepted p planes) intra
 
-    module _ (fits : Bool) (told : fits ≡ prediction_fits p.picture planes) where
-      pub finished-intra : fits ≡ true → result 0 (slice_start p (slice_count p.picture)) (predicted_planes p.picture planes) ≡ finished p planes
-      unfolding predicted accepted prediction_fits predicted_planes
-      finished-intra all =
-          first-chosen (prediction_fits p.picture planes) (accepted p (predicted_planes p.picture planes)) _ (sym told ∙ all) ∙ finished-predicted
+    pub finished-intra : true ≡ prediction_fits p.picture planes → result 0 (slice_start p (slice_count p.picture)) (predicted_planes p.picture planes) ≡ finished p planes
+    unfolding predicted accepted prediction_fits predicted_planes
+    finished-intra all =
+        first-chosen (prediction_fits p.picture planes) (accepted p (predicted_planes p.picture planes)) _ (sym all) ∙ finished-predicted
 
-      pub finished-out : fits ≡ false → result 9 (slice_count p.picture) (zeros planes) ≡ finished p planes
-      unfolding predicted prediction_fits predicted_planes
-      finished-out some =
-          second-chosen (prediction_fits p.picture planes) (accepted p (predicted_planes p.picture planes)) _ (sym told ∙ some) ∙ finished-predicted
+    pub finished-out : false ≡ prediction_fits p.picture planes → result 9 (slice_count p.picture) (zeros planes) ≡ finished p planes
+    unfolding predicted prediction_fits predicted_planes
+    finished-out some =
+        second-chosen (prediction_fits p.picture planes) (accepted p (predicted_planes p.picture planes)) _ (sym some) ∙ finished-predicted
 
 -- level 0 of a component lies in its plane
 pub low-inside : (g : Grid) → Whole g → (plane : List ℤ) → length plane ≡ g.width * g.height → (low : Subband) → low ≡ subband_at g.depth g.width g.height 0 →

@@ -16,12 +16,8 @@ use Rattle.base.specs.Range.{fits32}
 use Rattle.base.specs.Sign.{with_sign}
 use Rattle.component.specs.Checks.{in_range}
 use Rattle.exp_golomb.specs.Bits.{bits_from}
-use Rattle.exp_golomb.specs.Codes.{signed}
-use Rattle.exp_golomb.specs.declared.codes.Number.{Number}
-use Rattle.exp_golomb.specs.declared.codes.Number.TheVariants.{Read, Missing, TooLong}
-use Rattle.coefficients.specs.Reading.{RunOf, goes_on, stops, going, on_number, store, value}
-use Rattle.coefficients.specs.declared.reading.Progress.{Progress}
-use Rattle.coefficients.specs.declared.reading.Progress.TheVariants.{At, Refused}
+use Rattle.exp_golomb.specs.Codes.{Number, Read, Missing, TooLong, signed}
+use Rattle.coefficients.specs.Reading.{Progress, At, Refused, RunOf, goes_on, stops, going, on_number, store, value}
 use Rattle.slices.specs.Planes.{Planes, planes_of, zeros, in_luma, in_first, in_second}
 use Rattle.slices.specs.Areas.{luma_grid, chroma_grid, slice_count, indices_fit}
 use Rattle.slices.specs.Parts.{PartData, Parts, refused, entry_values, parts_values}

@@ -2,19 +2,21 @@
 -- Assumes nothing.
 use mathlib.Core.Path.{◌≡◌, refl, sym, ap, ◌∙◌, subst}
 use mathlib.Core.List.{List}
-use Prim.Native.Nat.{ℕ, suc, ◌+◌, ◌-◌, ◌*◌, ◌/◌, ◌^◌, ◌≤◌, ◌<◌}
+use Prim.Native.Nat.{ℕ, suc, ◌+◌, ◌-◌, ◌*◌, ◌/◌, ◌^◌, ◌≤◌, ◌<◌, max}
 use native.Mathlib.Nat.{zero-mul, zero-div, pow-suc, le_trans, mul-le-mul, mul-le-mul_left, mul-le-mul_right, div-le_self, div-mul-le_self, lt-div-mul-add, div-lt_iff_lt-mul, le-div_iff_mul-le}
-use native.Mathlib.Numerals.{add-one}
-use native.Mathlib.Decide.{dec_lt, ℕ_discrete}
+use native.Mathlib.Decide.{dec_lt}
 use native.Mathlib.Omega.{arith}
 use lib.IntN.{ℤ}
+use lib.Pow.{pow_mono, pow_pos}
 use lib.ListN.{length, take, drop, length-drop}
 use lib.Seq.{length-take-le}
 use borrow.Author.Tests.{lt-ltb, le-ltb}
+use Rattle.std.specs.Prelude.{Result, Err}
+use Rattle.std.specs.Int.{IsPowerOfTwo}
+use Rattle.base.specs.Refusals.{number_of}
+use Rattle.base.specs.declared.status.Fault.{Fault}
 use Rattle.exp_golomb.specs.Bits.{bits_from}
 use Rattle.coefficients.specs.Reading.{goes_on, stops}
-use Rattle.coefficients.specs.declared.reading.Progress.{Progress}
-use Rattle.coefficients.specs.declared.reading.Progress.TheVariants.{Refused}
 use Rattle.slices.specs.Planes.{Planes}
 use Rattle.slices.specs.Areas.{slice_count}
 use Rattle.slices.specs.Parts.{Parts, refused, parts_values}
@@ -80,40 +82,32 @@ length-bits-most size few = (length-bits size).least 19 (omega arith)
 pub length-bits-fit : (size : ℕ) → 1 ≤ size → 7 + length_bits size ≤ 8 * size
 length-bits-fit size some = omega (arith, (length-bits size).least (8 * size - 7) (omega (arith, power-above (8 * size - 7))))
 
--- The search for it by doubling: the power of 2 at n, where no smaller one is m or more.
-pub record Doubled (m n power : ℕ) : Type 0 where
-  pub is : power ≡ 2 ^ n
-  pub some : 1 ≤ power
-  pub earlier : (k : ℕ) → k < n → 2 ^ k < m
+-- a power of 2 between one and the next
+exponent-same : (n k : ℕ) → 2 ^ n ≤ 2 ^ k → 2 ^ k < 2 * 2 ^ n → n ≡ k
+exponent-same n k low high =
+    elim (dec_lt n k) [
+      | yes less ↦ absurd (omega (arith, pow_mono {i = suc n} {j = k} less, pow-suc 2 n))
+      | no not_less ↦
+          elim (dec_lt k n) [
+            | yes more ↦ absurd (omega (arith, pow_mono {i = suc k} {j = n} more, pow-suc 2 k, pow_pos k))
+            | no not_more ↦ omega arith
+          ]
+    ]
 
-pub doubled-none : (m : ℕ) → Doubled m 0 1
-doubled-none m = record { is = refl; some = omega arith; earlier = λ k h. absurd (omega arith) }
-
-module _ (m n power : ℕ) (sofar : Doubled m n power) where
-  pub doubled-next : power < m → Doubled m (n + 1) (power * 2)
-  doubled-next less =
-      record {
-        is = rw (add-one n) (omega (arith, sofar.is, pow-suc 2 n));
-        some = omega (arith, sofar.some);
-        earlier = λ k h.
-            elim (ℕ_discrete k n) [
-              | yes here ↦ rw (here, ← sofar.is) less
-              | no other ↦ sofar.earlier k (omega arith)
-            ];
-      }
-
-  pub doubled-few : m ≤ 524288 → n ≤ 19
-  doubled-few most =
-      elim (dec_lt 19 n) [
-        | yes more ↦ absurd (omega (arith, sofar.earlier 19 more))
-        | no few ↦ omega arith
-      ]
-
-pub doubled-found : (size n power : ℕ) → Doubled (8 * size - 7) n power → 8 * size - 7 ≤ power → n ≡ length_bits size
-doubled-found size n power sofar enough =
-    elim (dec_lt (length_bits size) n) [
-      | yes less ↦ absurd (omega (arith, sofar.earlier (length_bits size) less, (length-bits size).enough))
-      | no last ↦ omega (arith, (length-bits size).least n (rw sofar.is at enough))
+-- the least power of 2 that is enough for a slice of so many bytes is that of its luma bit length
+pub length-bits-found : (size power n : ℕ) → IsPowerOfTwo power → 8 * size - 7 ≤ power → power / 2 < max 1 (8 * size - 7) → 2 ^ n ≤ power → power < 2 * 2 ^ n → n ≡ length_bits size
+length-bits-found size power n is enough less low high =
+    let k = is.0 in
+    let least = length-bits size in
+    let bits = length_bits size in
+    let same : n ≡ k = exponent-same n k (rw is.1 at low) (rw is.1 at high) in
+    let below : bits ≤ k = least.least k (rw is.1 at enough) in
+    let some : 1 ≤ 2 ^ bits = pow_pos bits in
+    elim (dec_lt bits k) [
+      | yes fewer ↦
+          let double : 2 * 2 ^ bits ≤ power = omega (arith, is.1, pow_mono {i = suc bits} {j = k} fewer, pow-suc 2 bits) in
+          absurd (omega (arith, least.enough))
+      | no last ↦ omega arith
     ]
 
 -- no bits are the number 0
@@ -150,14 +144,14 @@ module _ (p : LowDelay) (bytes : List ℕ) (k start next : ℕ) (start_is : star
     slice-there = rw (← start_is, ← next-is, le-ltb (length bytes) next there, own-length) refl
 
     -- what its parts leave is what it leaves
-    pub slice-refused : (status bit end : ℕ) (last : Planes) (run : List ℤ) → refused status bit ≡ low_delay_parts p.picture (length own_bytes) own_bytes (8 * start) →
-        Left end (Refused status bit) last run (slice p bytes k planes)
-    slice-refused status bit end last run is =
-        left-refused end status bit planes last run _
-        (sym (parts-refused p.picture k status bit (8 * start) planes) ∙ ap (λ (parts : Parts). parts_values p.picture k parts (goes_on (8 * start) planes)) is ∙ slice-there)
+    pub slice-refused : (fault : Fault) (end : ℕ) (last : Planes) (run : List ℤ) → refused (number_of fault.refusal) fault.bit ≡ low_delay_parts p.picture (length own_bytes) own_bytes (8 * start) →
+        Left end (Err fault) last run (slice p bytes k planes)
+    slice-refused fault end last run is =
+        left-refused end fault planes last run _
+        (sym (parts-refused p.picture k (number_of fault.refusal) fault.bit (8 * start) planes) ∙ ap (λ (parts : Parts). parts_values p.picture k parts (goes_on (8 * start) planes)) is ∙ slice-there)
 
-    pub slice-read : start ≤ next → (parts : Parts) → parts ≡ low_delay_parts p.picture (length own_bytes) own_bytes (8 * start) → (progress : Progress) (last : Planes) (run : List ℤ) →
-        ((at : ℕ) → Left (8 * start + 8 * length own_bytes) progress last run (parts_values p.picture k parts (goes_on at planes))) → Left (8 * slice_start p (suc k)) progress last run (slice p bytes k planes)
-    slice-read forward parts is progress last run left =
+    pub slice-read : start ≤ next → (parts : Parts) → parts ≡ low_delay_parts p.picture (length own_bytes) own_bytes (8 * start) → (result : Result ℕ Fault) (last : Planes) (run : List ℤ) →
+        ((at : ℕ) → Left (8 * start + 8 * length own_bytes) result last run (parts_values p.picture k parts (goes_on at planes))) → Left (8 * slice_start p (suc k)) result last run (slice p bytes k planes)
+    slice-read forward parts is result last run left =
         let whole : 8 * start + 8 * length own_bytes ≡ 8 * slice_start p (suc k) = omega (arith, own-length, next-is) in
-        rw (← slice-there, ← is) (subst (λ (n : ℕ). Left n progress last run (parts_values p.picture k parts (goes_on (8 * start) planes))) whole (left (8 * start)))
+        rw (← slice-there, ← is) (subst (λ (n : ℕ). Left n result last run (parts_values p.picture k parts (goes_on (8 * start) planes))) whole (left (8 * start)))

@@ -11,8 +11,7 @@ use lib.Dec.{ltb}
 use lib.ListN.{length, take, drop, length-append, length-drop}
 use lib.Seq.{take-append-le, drop-append-le}
 use borrow.Author.Tests.{le-ltb}
-use Rattle.coefficients.specs.declared.reading.Progress.{Progress}
-use Rattle.coefficients.specs.declared.reading.Progress.TheVariants.{At, Refused}
+use Rattle.coefficients.specs.Reading.{Progress, At, Refused}
 use Rattle.slices.specs.Planes.{Planes, zeros}
 use Rattle.slices.specs.Areas.{slice_count}
 use Rattle.low_delay.specs.Slices.{slice_start, slice_size, slice_parts, slice}

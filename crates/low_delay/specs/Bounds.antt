@@ -1,19 +1,18 @@
 -- The code's own forms: fractions that passed the checks, planes by their lengths, the parts that a header announces, and three planes predicted.
 -- No definition of the format rests on them.
-use Rattle.std.specs.Prelude.{ℕ, ◌+◌, ◌*◌, ◌≤◌, ◌≡◌, Bool, ◌&&◌, List, length}
+use Rattle.std.specs.Prelude.{ℕ, ◌+◌, ◌*◌, ◌≤◌, ◌≡◌, Bool, ◌&&◌, Result, Ok, Err, List, length}
+use Rattle.base.specs.Refusals.{number_of}
+use Rattle.base.specs.declared.status.Fault.{Fault}
 use Rattle.slices.specs.Planes.{Planes, planes_of}
 use Rattle.slices.specs.Areas.{luma_grid, chroma_grid}
 use Rattle.slices.specs.Bounds.{Indexed}
 use Rattle.slices.specs.Parts.{Parts, part, ends, refused}
 use Rattle.slices.specs.declared.parameters.Picture.{Picture}
-use Rattle.slices.specs.declared.parameters.Holder.{Holder}
 use Rattle.slices.specs.declared.parameters.Holder.TheVariants.{Luma, Both}
-use Rattle.slices.specs.declared.parts.SlicePart.{SlicePart}
 use Rattle.low_delay.specs.Job.{predicted_plane}
 use Rattle.low_delay.specs.declared.parameters.LowDelay.{LowDelay}
 use Rattle.low_delay.specs.declared.slice.TwoParts.{TwoParts}
 use Rattle.low_delay.specs.declared.headers.Header.{Header}
-use Rattle.low_delay.specs.declared.headers.Header.TheVariants.{Refused, Read}
 
 -- A fraction that passed its check.
 pub record SoundFraction (p : LowDelay) : Type 0 where
@@ -28,33 +27,18 @@ pub record PlanesOfLengths (luma first second : ℕ) (planes : Planes) : Type 0 
   pub second_long : length planes.second ≡ second
 
 -- The parts of a slice by its bytes, the bit at which these start, and what its header says: luma's, and then those of C1 and C2 in the rest.
-abbrev pub parts_of : List ℕ → ℕ → Header → Parts
-parts_of bytes start (Refused status bit) = refused status bit
-parts_of bytes start (Read index from middle) =
-    part index (record { bytes = bytes; origin = start; from = from; to = middle }) Luma
-    (part index (record { bytes = bytes; origin = start; from = middle; to = 8 * length bytes }) Both
+abbrev pub parts_of : List ℕ → ℕ → Result Header Fault → Parts
+parts_of bytes start (Err fault) = refused (number_of fault.refusal) fault.bit
+parts_of bytes start (Ok header) =
+    part header.index (record { bytes = bytes; origin = start; from = header.from; to = header.middle }) Luma
+    (part header.index (record { bytes = bytes; origin = start; from = header.middle; to = 8 * length bytes }) Both
     (ends (start + 8 * length bytes)))
 
--- A part of a slice, from a bit to a bit of its bytes.
-abbrev pub part_of : TwoParts → Holder → ℕ → ℕ → SlicePart
-part_of parts holder bit end =
-    record {
-      picture = parts.picture;
-      slice = parts.number;
-      holder = holder;
-      index = parts.index;
-      span = record { bit = bit; end = end; origin = parts.start };
-    }
-
 -- The parts lie in a slice of so many bytes, and the index of every subband is in range.
-pub record SoundParts (p : Picture) (size index from middle : ℕ) : Type 0 where
-  pub forward : from ≤ middle
-  pub inside : middle ≤ 8 * size
-  pub indexed : Indexed p index
-
-abbrev pub SoundHeader : Picture → ℕ → Header → Type 0
-SoundHeader p size (Refused status bit) = Unit
-SoundHeader p size (Read index from middle) = SoundParts p size index from middle
+pub record SoundParts (p : Picture) (size : ℕ) (header : Header) : Type 0 where
+  pub forward : header.from ≤ header.middle
+  pub inside : header.middle ≤ 8 * size
+  pub indexed : Indexed p header.index
 
 -- Three planes predicted: whether every value fits, and the planes after it.
 unfoldable pub prediction_fits : Picture → Planes → Bool
@@ -69,4 +53,4 @@ predicted_planes p planes =
 
 -- The parts that a header announced, as the code has them.
 abbrev pub announced : List ℕ → TwoParts → Parts
-announced bytes t = parts_of bytes t.start (Read t.index t.from t.middle)
+announced bytes t = parts_of bytes t.start (Ok t.header)

@@ -4,8 +4,7 @@ use Rattle.base.specs.Every.{all_below}
 use Rattle.component.specs.Checks.{in_range}
 use Rattle.component.specs.Subbands.{subband_count, subband_at}
 use Rattle.component.specs.declared.parameters.Answer.{Answer}
-use Rattle.coefficients.specs.declared.reading.Progress.{Progress}
-use Rattle.coefficients.specs.declared.reading.Progress.TheVariants.{At, Refused}
+use Rattle.coefficients.specs.Reading.{Progress, At, Refused}
 use Rattle.prediction.specs.Prediction.{Predicted, prediction}
 use Rattle.slices.specs.Planes.{Planes, planes_of, zeros}
 use Rattle.slices.specs.Areas.{luma_grid, chroma_grid, slice_count}

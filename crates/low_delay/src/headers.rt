@@ -1,59 +1,52 @@
 // Document 02, request Four: the header of a low delay slice, which is its quantiser index and luma's bit length.
-ghost use Rattle.std.specs.Prelude.{◌≡◌, ◌+◌, ◌*◌, ◌^◌, ◌≤◌, ◌<◌, length};
+ghost use Rattle.std.specs.Prelude.{◌≡◌, ◌+◌, ◌*◌, ◌^◌, ◌≤◌, ◌<◌, IfOk, length};
 ghost use Rattle.exp_golomb.specs.Bits.{bits_from};
-ghost use Rattle.slices.specs.Bounds.{Checked};
 ghost use Rattle.low_delay.specs.Slices.{length_bits, low_delay_parts};
-ghost use Rattle.low_delay.specs.Bounds.{parts_of, SoundHeader};
+ghost use Rattle.low_delay.specs.Bounds.{parts_of, SoundParts};
 
-use base::status::{LUMA_LENGTH_REFUSED, QUANTISER_REFUSED};
+use crate::reader::SliceReader;
+use base::status::{Fault, Refusal};
 use slices::areas::indices_fit;
-use slices::parameters::Picture;
 
 // How many bits the quantiser index of a slice has.
 const INDEX_BITS: usize = 7;
 
-// What a header says.
+// What a header says: the slice's quantiser index, and the bits at which luma's part starts and ends. The rest is that of C1 and C2.
 #[derive(Clone, Copy)]
-pub enum Header {
-    // The slice is refused: a refusal's number, and the bit of all bytes at which it arose.
-    Refused {
-        status: u32,
-        bit: usize,
-    },
-    // The slice's quantiser index, and the bits at which luma's part starts and ends. The rest is that of C1 and C2.
-    Read {
-        index: u32,
-        from: usize,
-        middle: usize,
-    },
+pub struct Header {
+    pub index: u32,
+    pub from: usize,
+    pub middle: usize,
 }
 
-// Reads the header of a slice, whose own bytes start at a bit of all bytes.
-pub fn read_header(p: Picture, bytes: &[u8], start: usize) -> Header
-    requires { Checked p × (1 ≤ length bytes.now) × (length bytes.now ≤ 65535) × (start < 2 ^ 62) }
-    ensures result_value { parts_of bytes.now start result ≡ low_delay_parts p (length bytes.now) bytes.now start }
-    ensures sound_header { SoundHeader p (length bytes.now) result }
-{
-    let index = read_bits(bytes, 0, INDEX_BITS);
-    let n = length_bits(bytes.len());
-    let from = INDEX_BITS + n;
-    let middle = from + read_bits(bytes, INDEX_BITS, n);
-    if 8 * bytes.len() < middle {
-        return Header::Refused {
-            status: LUMA_LENGTH_REFUSED,
-            bit: start + from,
-        };
-    }
-    if !indices_fit(p, index as u32) {
-        return Header::Refused {
-            status: QUANTISER_REFUSED,
-            bit: start + from,
-        };
-    }
-    Header::Read {
-        index: index as u32,
-        from,
-        middle,
+impl SliceReader<'_, '_> {
+    // Reads the header of a slice, whose own bytes start at a bit of all bytes.
+    pub(crate) fn read_header(self, own: &[u8], start: usize) -> Result<Header, Fault>
+        requires { (1 ≤ length own.now) × (length own.now ≤ 65535) × (start < 2 ^ 62) }
+        ensures result_value { parts_of own.now start result ≡ low_delay_parts self.entry.p.picture (length own.now) own.now start }
+        ensures sound_header { IfOk result (SoundParts self.entry.p.picture (length own.now)) }
+    {
+        let index = read_bits(own, 0, INDEX_BITS) as u32;
+        let n = length_bits(own.len());
+        let from = INDEX_BITS + n;
+        let middle = from + read_bits(own, INDEX_BITS, n);
+        if 8 * own.len() < middle {
+            return Err(Fault {
+                refusal: Refusal::LumaLength,
+                bit: start + from,
+            });
+        }
+        if !indices_fit(self.p.picture, index) {
+            return Err(Fault {
+                refusal: Refusal::Quantiser,
+                bit: start + from,
+            });
+        }
+        Ok(Header {
+            index,
+            from,
+            middle,
+        })
     }
 }
 
@@ -63,12 +56,9 @@ fn read_bits(bytes: &[u8], at: usize, n: usize) -> usize
     ensures { (result ≡ bits_from bytes.now at n) × (result < 2 ^ n) }
 {
     let mut v = 0;
-    let mut i = 0;
-    while i < n {
+    for i in 0..n {
         let bit = at + i;
-        let byte = bytes[bit / 8] as usize;
-        v = 2 * v + (byte >> (7 - bit % 8)) % 2;
-        i += 1;
+        v = 2 * v + (usize::from(bytes[bit / 8]) >> (7 - bit % 8)) % 2;
     }
     v
 }
@@ -79,11 +69,5 @@ fn length_bits(size: usize) -> usize
     ensures { (result ≡ length_bits size) × (result ≤ 19) × (7 + result ≤ 8 * size) }
 {
     let most = 8 * size - 7;
-    let mut power = 1;
-    let mut n = 0;
-    while power < most {
-        power *= 2;
-        n += 1;
-    }
-    n
+    most.next_power_of_two().ilog2() as usize
 }

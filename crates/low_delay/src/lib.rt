@@ -6,28 +6,26 @@ pub mod finish;
 pub mod headers;
 pub mod parameters;
 pub mod planes;
+pub mod reader;
 pub mod slice;
-pub mod starts;
 
 ghost use Rattle.std.specs.Prelude.{◌≡◌};
+ghost use Rattle.component.specs.Answers.{answer_of};
 ghost use Rattle.slices.specs.Planes.{planes_of};
 ghost use Rattle.slices.specs.Areas.{slice_count};
-ghost use Rattle.slices.specs.Bounds.{Checked, Lengths};
+ghost use Rattle.slices.specs.Bounds.{Lengths};
+ghost use Rattle.slices.specs.Stores.{planes_behind, SamePlanes};
 ghost use Rattle.low_delay.specs.Job.{outcome, slices_from, unpacked};
-ghost use Rattle.low_delay.specs.Bounds.{SoundFraction};
 
-use crate::checks::refusal;
-use crate::finish::finish;
+use crate::checks::check;
 use crate::parameters::LowDelay;
 use crate::planes::zero_planes;
-use crate::slice::{Numbered, read_slice};
-use crate::starts::slice_count;
-use base::status::ACCEPTED;
+use crate::reader::SliceReader;
 use coefficients::quantiser::factor_table;
-use coefficients::reading::Progress;
-use component::parameters::Answer;
-use lookups::lookup_table;
-use slices::tables::fill_small_table;
+use component::parameters::Refused;
+use lookups::CodeTable;
+use slices::stores::ThreePlanes;
+use slices::tables::{Tables, fill_small_table};
 
 // Reads the coefficients of luma, C1 and C2 from the bytes of a picture. Refusals 1, 2, 13 and 5 leave the planes as they were; 6 to 9 and
 // 14 leave zeros, with the slice as their place, or the number of slices where prediction is refused; the place of an acceptance is the
@@ -38,52 +36,46 @@ pub fn unpack_low_delay(
     luma: &mut [i32],
     first: &mut [i32],
     second: &mut [i32],
-) -> Answer
-    ensures { outcome result luma.new first.new second.new
+) -> Result<usize, Refused>
+    ensures { outcome (answer_of result) luma.new first.new second.new
         ≡ unpacked p bytes.now (planes_of luma.old first.old second.old) }
 {
-    let status = refusal(p, luma.len(), first.len(), second.len());
-    if status != ACCEPTED {
-        return Answer { status, place: 0 };
-    }
-    zero_planes(luma, first, second);
-    read_slices(p, bytes, luma, first, second)
+    check(p, luma.len(), first.len(), second.len())?;
+    let mut planes = ThreePlanes {
+        luma,
+        first,
+        second,
+    };
+    zero_planes(&mut planes);
+    let intra = p.picture.intra;
+    let codes = CodeTable::new();
+    let mut small = [[0; 32]; 116];
+    fill_small_table(&mut small, intra);
+    let factors = factor_table();
+    let tables = Tables::new(intra, &codes, &small, &factors);
+    let reader = SliceReader { p, bytes, tables };
+    reader.read_slices(&mut planes)
 }
 
-// Reads the slices in raster order, and then predicts where the rules say so.
-fn read_slices(
-    p: LowDelay,
-    bytes: &[u8],
-    luma: &mut [i32],
-    first: &mut [i32],
-    second: &mut [i32],
-) -> Answer
-    requires { Checked p.picture × SoundFraction p × Lengths p.picture luma.old first.old second.old }
-    ensures { outcome result luma.new first.new second.new
-        ≡ slices_from p bytes.now (slice_count p.picture) 0 (planes_of luma.old first.old second.old) }
-{
-    let mut run = [0; 8192];
-    let table = lookup_table();
-    let picture = p.picture;
-    let mut small = [[0; 32]; 116];
-    fill_small_table(&mut small, picture.intra);
-    let factors = factor_table();
-    let count = slice_count(picture);
-    let mut k = 0;
-    while k < count {
-        let of = Numbered {
-            parameters: p,
-            number: k,
-        };
-        match read_slice(
-            luma, first, second, of, bytes, &mut run, &table, &small, &factors,
-        ) {
-            Progress::At { bit: _ } => k += 1,
-            Progress::Refused { status, bit: _ } => {
-                zero_planes(luma, first, second);
-                return Answer { status, place: k };
+impl SliceReader<'_, '_> {
+    // Reads the slices in raster order, and then predicts where the rules say so.
+    fn read_slices(self, planes: &mut ThreePlanes<'_>) -> Result<usize, Refused>
+        requires { Lengths self.p.picture planes.old.luma.now planes.old.first.now planes.old.second.now }
+        ensures same { SamePlanes planes.old planes.new }
+        ensures ended { outcome (answer_of result) planes.new.luma.now planes.new.first.now planes.new.second.now
+            ≡ slices_from self.entry.p self.entry.bytes.now (slice_count self.entry.p.picture) 0 (planes_behind planes.old) }
+    {
+        let mut run = [0; 8192];
+        let count = self.slice_count();
+        for k in 0..count {
+            if let Err(fault) = self.read_slice(planes, k, &mut run) {
+                zero_planes(planes);
+                return Err(Refused {
+                    refusal: fault.refusal,
+                    place: k,
+                });
             }
         }
+        self.finish(planes)
     }
-    finish(p, luma, first, second)
 }

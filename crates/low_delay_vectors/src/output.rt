@@ -5,7 +5,8 @@ use component::parameters::Answer;
 use low_delay::parameters::LowDelay;
 use slices::parameters::Picture;
 use std::io;
-use vector_io::{end_line, put_answer, put_named};
+use text::TextBuffer;
+use vector_io::{LINE_ROOM, put_answer, put_named};
 
 // Writes the line of a job and its answer.
 pub(crate) fn print_answer(
@@ -14,33 +15,33 @@ pub(crate) fn print_answer(
     bytes: usize,
     answer: Answer,
 ) -> io::Result<()> {
-    let mut line = [0u8; 4096];
-    let picture = put_picture(&mut line, 0, p.picture);
-    let numerator = put_named(&mut line, picture, b" of ", p.numerator as u64);
-    let denominator = put_named(&mut line, numerator, b"/", p.denominator as u64);
-    let data = put_named(&mut line, denominator, b" bytes ", bytes as u64);
-    let place = put_answer(&mut line, data, answer);
-    let end = end_line(&mut line, place);
-    rt.write_all(&line[..end])
+    let mut line = TextBuffer::<LINE_ROOM>::new();
+    put_picture(&mut line, p.picture);
+    put_named(&mut line, b" of ", u64::from(p.numerator));
+    put_named(&mut line, b"/", u64::from(p.denominator));
+    put_named(&mut line, b" bytes ", bytes as u64);
+    put_answer(&mut line, answer);
+    line.put_word(b"\n");
+    rt.write_all(line.as_bytes())
 }
 
-// Puts what the picture of a job is. As in `text`, a piece is put from an index on, and the answer is the index after it.
-fn put_picture(text: &mut [u8], at: usize, p: Picture) -> usize
-    requires { at + 196 ≤ length text.old }
-    ensures { result ≤ at + 196 }
+// Puts what the picture of a job is.
+fn put_picture(text: &mut TextBuffer<LINE_ROOM>, p: Picture)
+    requires { length text.old + 196 ≤ 4096 }
+    ensures { length text.new ≤ length text.old + 196 }
 {
-    let luma = put_pair(text, at, b"", p.luma_width, p.luma_height);
-    let chroma = put_pair(text, luma, b" chroma ", p.chroma_width, p.chroma_height);
-    let depth = put_named(text, chroma, b" depth ", p.depth as u64);
-    let intra = put_named(text, depth, b" intra ", p.intra as u64);
-    put_pair(text, intra, b" slices ", p.slices_across, p.slices_down)
+    put_pair(text, b"", p.luma_width, p.luma_height);
+    put_pair(text, b" chroma ", p.chroma_width, p.chroma_height);
+    put_named(text, b" depth ", u64::from(p.depth));
+    put_named(text, b" intra ", u64::from(p.intra));
+    put_pair(text, b" slices ", p.slices_across, p.slices_down);
 }
 
 // Puts a name and two numbers, one across and one down.
-fn put_pair(text: &mut [u8], at: usize, name: &[u8], across: u32, down: u32) -> usize
-    requires { at + length name.now + 41 ≤ length text.old }
-    ensures { result ≤ at + length name.now + 41 }
+fn put_pair(text: &mut TextBuffer<LINE_ROOM>, name: &[u8], across: u32, down: u32)
+    requires { length text.old + length name.now + 41 ≤ 4096 }
+    ensures { length text.new ≤ length text.old + length name.now + 41 }
 {
-    let after = put_named(text, at, name, across as u64);
-    put_named(text, after, b"x", down as u64)
+    put_named(text, name, u64::from(across));
+    put_named(text, b"x", u64::from(down));
 }

@@ -1,60 +1,44 @@
 -- Laws of prediction: the sizes of its sums, the predictor by tests as the code makes them, one predicted value, a state that does not
 -- fit, and what prediction leaves as it is.
 -- Assumes nothing.
-use mathlib.Core.Path.{◌≡◌, refl, sym, ap, ◌∙◌}
+use mathlib.Core.Path.{◌≡◌, refl, sym, ◌∙◌}
 use mathlib.Core.Logic.{◌≢◌}
 use mathlib.Core.Bool.{Bool, true, false, cond}
 use mathlib.Core.List.{List}
 use Prim.Native.Nat.{ℕ, zero, suc, ◌+◌, ◌-◌, ◌*◌, ◌^◌, ◌≤◌, ◌<◌}
-use native.Mathlib.Nat.{suc-mul}
 use native.Mathlib.Omega.{arith}
 use lib.IntN.{ℤ, pos, nat_abs, ◌+ℤ◌}
 use lib.ListN.{get_or, set}
 use lib.Seq.{get_or-set_other}
 use lib.Signed.{mag}
-use Rattle.base.specs.Floor.{floor_div}
+use mir.Syntax.{w64}
+use mir.Val.{to_z, of_z}
+use Rattle.std.proofs.Common.{FitsSigned}
+use Rattle.std.proofs.lemmas.Int.{ints}
 use Rattle.base.specs.Range.{fits32}
 use Rattle.base.specs.Walk.{walk}
 use Rattle.base.proofs.Integers.{mag-size, size-mag, size-add}
+use Rattle.base.proofs.RangeLaws.{back}
 use Rattle.base.proofs.FloorLaws.{size-floor}
 use Rattle.base.proofs.WalkLaws.{walk-next, walk-stays, walk-stopped, walk-holds}
 use Rattle.prediction.specs.Prediction.{Predicted, ended, mean_of, predictor, store_predicted, predicted_value, predicted_row, prediction}
 
--- the sums of three values of a plane fit 64 bits, and their mean is small
-pub record SumsFit (left corner upper : ℤ) : Type 0 where
-  pub pair : mag (left +ℤ corner) < 2 ^ 63
-  pub three : mag (left +ℤ corner +ℤ upper) < 2 ^ 63
-  pub sum : mag (left +ℤ corner +ℤ upper +ℤ pos 1) < 2 ^ 63
-  pub mean : nat_abs (floor_div (left +ℤ corner +ℤ upper +ℤ pos 1) 3) ≤ 2 ^ 34
+-- the sum of three values of a plane and 1 fits 64 bits, and their mean is small
+pub sum-fits : (p q r : ℤ) → mag p < 2 ^ 31 → mag q < 2 ^ 31 → mag r < 2 ^ 31 → FitsSigned w64 (to_z w64 (of_z w64 (to_z w64 (of_z w64 (p +ℤ q)) +ℤ r)) +ℤ pos 1)
+sum-fits p q r hp hq hr =
+    let two = size-add p q in
+    let three = size-add (p +ℤ q) r in
+    let four = size-add (p +ℤ q +ℤ r) (pos 1) in
+    let sizes : nat_abs p + nat_abs q + nat_abs r ≤ 2 ^ 33 = omega (arith, size-mag p, size-mag q, size-mag r) in
+    rw (
+      back w64 (p +ℤ q) (omega (arith, mag-size (p +ℤ q))),
+      back w64 (p +ℤ q +ℤ r) (omega (arith, mag-size (p +ℤ q +ℤ r))),
+    )
+    (record { sfits = omega (arith, mag-size (p +ℤ q +ℤ r +ℤ pos 1)) })
 
-pub sums-fit : (left corner upper : ℤ) → mag left < 2 ^ 31 → mag corner < 2 ^ 31 → mag upper < 2 ^ 31 → SumsFit left corner upper
-sums-fit left corner upper hl hc hu =
-    let two : ℤ = left +ℤ corner in
-    let three : ℤ = two +ℤ upper in
-    let sum : ℤ = three +ℤ pos 1 in
-    let two_size : nat_abs two ≤ 2 ^ 32 = omega (arith, size-add left corner, size-mag left, size-mag corner) in
-    let three-size : nat_abs three ≤ 2 ^ 33 = omega (arith, size-add two upper, size-mag upper) in
-    let sum-size : nat_abs sum ≤ 2 ^ 34 = omega (arith, size-add three (pos 1)) in
-    record {
-      pair = omega (arith, mag-size two);
-      three = omega (arith, mag-size three);
-      sum = omega (arith, mag-size sum);
-      mean = omega (arith, size-floor sum 3);
-    }
-
--- a value of a plane is small, and fits 64 bits with a predictor added
-pub value-small : (v : ℤ) → mag v < 2 ^ 31 → nat_abs v ≤ 2 ^ 34
-value-small v h = omega (arith, size-mag v)
-
-pub predicted-small : (v p : ℤ) → mag v < 2 ^ 31 → nat_abs p ≤ 2 ^ 34 → mag (v +ℤ p) < 2 ^ 63
-predicted-small v p hv hp = omega (arith, mag-size (v +ℤ p), size-add v p, size-mag v)
-
--- the row above starts a stride earlier
-pub row-above : (y stride : ℕ) → y ≢ 0 → (y - 1) * stride + stride ≡ y * stride
-row-above zero stride other = absurd (other refl)
-row-above (suc y) stride other =
-    let same : suc y - 1 ≡ y = omega arith in
-    rw same (sym (suc-mul y stride))
+pub mean-small : (left corner upper : ℤ) → mag left < 2 ^ 31 → mag corner < 2 ^ 31 → mag upper < 2 ^ 31 → nat_abs (mean_of left corner upper) ≤ 2 ^ 34
+unfolding mean_of
+mean-small left corner upper hl hc hu = omega (arith, ints, size-floor (left +ℤ corner +ℤ upper +ℤ pos 1) 3)
 
 -- the predictor by the tests of the code: at the corner, in the top row, in the left column and elsewhere
 module _ (stride : ℕ) (plane : List ℤ) where
@@ -69,12 +53,12 @@ module _ (stride : ℕ) (plane : List ℤ) where
       let same : suc x - 1 ≡ x = omega arith in
       rw (top, same)
 
-  pub predictor-left : (y x : ℕ) → y ≢ 0 → x ≡ 0 → get_or plane ((y - 1) * stride + x) (pos 0) ≡ predictor stride plane y x
+  pub predictor-left : (y x : ℕ) → y ≢ 0 → x ≡ 0 → get_or plane ((y - 1) * stride) (pos 0) ≡ predictor stride plane y x
   unfolding predictor
   predictor-left zero x other left = absurd (other refl)
   predictor-left (suc y) x other left =
       let same : suc y - 1 ≡ y = omega arith in
-      rw (left, same) (ap (λ (index : ℕ). get_or plane index (pos 0)) (omega arith))
+      rw (left, same)
 
   pub predictor-inner :
       (y x : ℕ) → y ≢ 0 → x ≢ 0

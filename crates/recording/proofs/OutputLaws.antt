@@ -40,11 +40,11 @@ module _ (p : Parameters) where
     fits-area = within-area p 16384 fits
 
   -- so no plane is longer than 16,384
-  pub plane-most : plane_length p ≤ 16384
-  plane-most = cond-most (fits_program p) (area_of p) 16384 fits-area
+  pub plane_most : plane_length p ≤ 16384
+  plane_most = cond-most (fits_program p) (area_of p) 16384 fits-area
 
-  pub sample-most : sample_length p ≤ 16384
-  sample-most = cond-most (fits_program p) (p.width * p.height) 16384 (λ fits. omega (arith, samples-fewer p, fits-area fits))
+  pub sample_most : sample_length p ≤ 16384
+  sample_most = cond-most (fits_program p) (p.width * p.height) 16384 (λ fits. omega (arith, samples-fewer p, fits-area fits))
 
 -- the status of an entry, case by case
 module _ (status place size : ℕ) where
@@ -55,10 +55,6 @@ module _ (status place size : ℕ) where
   pub all-used : place ≡ size → entry_status status place size ≡ status
   unfolding entry_status
   all-used used = rw (and-false (eqb status 0) (not (eqb place size)) (ap not (eq-eqb place size used)))
-
-  pub left_over : status ≡ 0 → place ≢ size → entry_status status place size ≡ 12
-  unfolding entry_status
-  left_over none other = rw (eq-eqb status 0 none, ne_eqb place size other)
 
   -- so what is accepted was accepted by decode
   pub entry-accepted : entry_status status place size ≡ 0 → status ≡ 0
@@ -80,7 +76,7 @@ module _ (p : Parameters) (bytes : List ℕ) (coefficients work samples : List �
       (length samples ≡ p.width * p.height) × (p.width * p.height ≤ 16384) × (p.height ≤ 4096)
   samples-fit long fine = (
     (fits fine).samples-fit,
-    omega (arith, samples-fewer p, (fits fine).coefficients-fit, long, plane-most p),
+    omega (arith, samples-fewer p, (fits fine).coefficients-fit, long, plane_most p),
     height_most p (passed Decode p _ (accepted-checked p bytes coefficients work samples fine)).sizes-pass,
   )
 

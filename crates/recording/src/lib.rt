@@ -4,20 +4,20 @@
 mod planes;
 mod results;
 
-ghost use Rattle.std.specs.Prelude.{◌≡◌, ◌≤◌, ◌<◌, length, take};
-ghost use Rattle.io.specs.Counts.{IsPrefixLen};
+ghost use Rattle.std.specs.Prelude.{◌≡◌, ◌++◌, ◌<◌, ℕ, length};
+ghost use Rattle.contents.specs.Counts.{nonzero};
 ghost use Rattle.contents.specs.Table.{entry_count};
-ghost use Rattle.text.specs.Put.{Put};
+ghost use Rattle.component.specs.Answers.{answer_of};
 ghost use Rattle.recording.specs.Output.{plane_length, sample_length, entry_status, body_lines, entry_text};
 ghost use Rattle.recording.specs.Parts.{part_count, part};
 
 use crate::planes::{plane_length, sample_length};
 use crate::results::put_entry;
-use base::status::{ACCEPTED, BYTES_LEFT_OVER};
-use component::parameters::{Answer, Parameters};
+use base::status::Refusal;
+use component::parameters::{Parameters, Refused};
 use contents::table::{FILE_MOST, entry_at};
 use decode::decode;
-use text::put_word;
+use text::TextBuffer;
 
 // Room for a recording, with one byte more, which tells that a file is too long.
 pub const FILE_ROOM: usize = FILE_MOST + 1;
@@ -29,47 +29,49 @@ pub const AREA_MOST: usize = 16384;
 pub const TEXT_ROOM: usize = 204800;
 
 // How many parts the output of a file with so many entries has: one for each entry, or one that says that the table is wrong.
-pub fn part_count(entries: usize) -> usize
-    ensures { result ≡ part_count entries }
+#[tactic(auto, using(crate::proofs::PartsLaws::parts_of))]
+pub fn part_count(entries: Option<usize>) -> usize
+    ensures { (n : ℕ) → entries ≡ nonzero n → result ≡ part_count n }
 {
-    if entries == 0 { 1 } else { entries }
+    entries.unwrap_or(1)
 }
 
-// Puts part k of what a file with so many entries decodes to at the start of the text, and answers how long it is. The planes may hold
-// anything before and after, and the text anything behind the part.
+// Puts part k of what a file with so many entries decodes to into the text, in place of what stood there. The planes may hold anything
+// before and after.
+#[tactic(auto, unfolding(crate::specs::Parts::part, crate::specs::Parts::part_count, contents::specs::Counts::nonzero, text::specs::Text::ascii))]
 pub fn output_part(
     file: &[u8],
-    entries: usize,
+    entries: Option<usize>,
     k: usize,
     coefficients: &mut [i32; AREA_MOST],
     work: &mut [i32; AREA_MOST],
     samples: &mut [i32; AREA_MOST],
-    text: &mut [u8; TEXT_ROOM],
-) -> usize
-    requires { (entries ≡ entry_count file.now) × (k < part_count entries) }
-    ensures text_after { take result text.new ≡ part file.now k }
-    ensures prefix_len { IsPrefixLen result text.new }
+    text: &mut TextBuffer<TEXT_ROOM>,
+)
+    requires { (entries ≡ nonzero (entry_count file.now)) × (k < part_count (entry_count file.now)) }
+    ensures { text.new ≡ part file.now k }
 {
-    if entries == 0 {
-        return put_word(text, 0, b"refused 11\n");
+    text.clear();
+    match entries {
+        Some(_) => entry_text(file, k, coefficients, work, samples, text),
+        None => text.put_word(b"refused 11\n"),
     }
-    entry_text(file, k, coefficients, work, samples, text)
 }
 
 // Puts the lines of entry k of a recording whose table is right.
+#[tactic(auto, using(crate::proofs::OutputLaws::plane_most, crate::proofs::OutputLaws::sample_most))]
 fn entry_text(
     file: &[u8],
     k: usize,
     coefficients: &mut [i32],
     work: &mut [i32],
     samples: &mut [i32],
-    text: &mut [u8],
-) -> usize
+    text: &mut TextBuffer<TEXT_ROOM>,
+)
     requires k_bound { k < entry_count file.now }
-    requires coefficients_len { (length coefficients.old ≡ 16384) × (length work.old ≡ 16384)
-        × (length samples.old ≡ 16384) × (length text.old ≡ 204800) }
-    ensures put { Put 0 text.old (entry_text file.now k) result text.new }
-    ensures upper_bound { result ≤ 204800 }
+    requires coefficients_len { (length coefficients.old ≡ 16384) × (length work.old ≡ 16384) × (length samples.old ≡ 16384) }
+    requires no_text { length text.old ≡ 0 }
+    ensures { text.new ≡ text.old ++ entry_text file.now k }
 {
     let entry = entry_at(file, k);
     let p = entry.parameters;
@@ -85,7 +87,7 @@ fn entry_text(
         &mut work[..area],
         &mut samples[..count],
         text,
-    )
+    );
 }
 
 // Decodes an entry in planes of the lengths that it needs, and puts its lines.
@@ -96,32 +98,30 @@ fn decoded_text(
     coefficients: &mut [i32],
     work: &mut [i32],
     samples: &mut [i32],
-    text: &mut [u8],
-) -> usize
+    text: &mut TextBuffer<TEXT_ROOM>,
+)
     requires coefficients_len { (length coefficients.old ≡ plane_length p) × (length work.old ≡ plane_length p)
         × (length samples.old ≡ sample_length p) }
-    requires text_len { length text.old ≡ 204800 }
-    ensures put { Put 0 text.old (body_lines k p body.now) result text.new }
-    ensures upper_bound { result ≤ 204800 }
+    requires no_text { length text.old ≡ 0 }
+    ensures { text.new ≡ text.old ++ body_lines k p body.now }
 {
-    let answer = decode(p, body, coefficients, work, samples);
-    put_entry(text, k, p, entry_answer(answer, body.len()), samples)
+    let decoded = decode(p, body, coefficients, work, samples);
+    put_entry(text, k, p, entry_result(decoded, body.len()), samples);
 }
 
-// Document 02, "Left-over bytes are a fault": the answer for an entry whose body has so many bytes, from what decode answered. It is 12 where
-// bytes of an accepted one are left over, and the place is decode's.
-fn entry_answer(answer: Answer, size: usize) -> Answer
-    ensures status { result.status ≡ entry_status answer.status answer.place size }
-    ensures place { result.place ≡ answer.place }
+// Document 02, "Left-over bytes are a fault": what an entry whose body has so many bytes comes to, from what decode answered. It is refused
+// where bytes of an accepted one are left over, and the place is decode's.
+#[tactic(auto, unfolding(crate::specs::Output::entry_status))]
+fn entry_result(decoded: Result<usize, Refused>, size: usize) -> Result<usize, Refused>
+    ensures status { (answer_of result).status ≡ entry_status (answer_of decoded).status (answer_of decoded).place size }
+    ensures place { (answer_of result).place ≡ (answer_of decoded).place }
 {
-    if answer.status != ACCEPTED {
-        return answer;
+    let used = decoded?;
+    if used == size {
+        return Ok(used);
     }
-    if answer.place == size {
-        return answer;
-    }
-    Answer {
-        status: BYTES_LEFT_OVER,
-        place: answer.place,
-    }
+    Err(Refused {
+        refusal: Refusal::BytesLeftOver,
+        place: used,
+    })
 }

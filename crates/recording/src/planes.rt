@@ -7,6 +7,7 @@ use component::checks::{area_within, padded_area};
 use component::parameters::Parameters;
 
 // Whether an entry is decoded: its sizes and depth are in range, and its padded area is at most 16,384.
+#[tactic(auto, unfolding(crate::specs::Output::fits_program))]
 fn fits_program(p: Parameters) -> bool
     ensures { result ≡ fits_program p }
 {

@@ -1,68 +1,79 @@
 // Document 01, "A recording": the lines of an entry.
-ghost use Rattle.std.specs.Prelude.{◌≡◌, ◌+◌, ◌*◌, ◌≤◌, length};
-ghost use Rattle.text.specs.Put.{Put};
+ghost use Rattle.std.specs.Prelude.{◌≡◌, ◌++◌, ◌+◌, ◌*◌, ◌≤◌, length};
+ghost use Rattle.base.specs.Refusals.{number_of};
+ghost use Rattle.component.specs.Answers.{answer_of};
 ghost use Rattle.recording.specs.Output.{heading, size_text, picture_text, refusal_text, entry_lines};
 
-use component::parameters::{Answer, Parameters};
-use text::{put_decimal, put_rows, put_word};
+use crate::TEXT_ROOM;
+use component::parameters::{Parameters, Refused};
+use text::TextBuffer;
 
-// Puts the lines of entry k at the start of the text: its samples, or its refusal.
-pub fn put_entry(text: &mut [u8], k: usize, p: Parameters, answer: Answer, samples: &[i32]) -> usize
-    requires text_len { length text.old ≡ 204800 }
-    requires samples_len { answer.status ≡ 0 → (length samples.now ≡ p.width * p.height) × (p.width * p.height ≤ 16384) × (p.height ≤ 4096) }
-    ensures put { Put 0 text.old (entry_lines k p answer.status answer.place samples.now) result text.new }
-    ensures upper_bound { result ≤ 204800 }
+// Puts the lines of entry k into a text with nothing in it: its samples, or its refusal.
+#[tactic(auto, unfolding(crate::specs::Output::entry_lines))]
+pub fn put_entry(
+    text: &mut TextBuffer<TEXT_ROOM>,
+    k: usize,
+    p: Parameters,
+    entry: Result<usize, Refused>,
+    samples: &[i32],
+)
+    requires no_text { length text.old ≡ 0 }
+    requires samples_len { (answer_of entry).status ≡ 0 →
+        (length samples.now ≡ p.width * p.height) × (p.width * p.height ≤ 16384) × (p.height ≤ 4096) }
+    ensures { text.new ≡ text.old ++ entry_lines k p (answer_of entry).status (answer_of entry).place samples.now }
 {
-    let at = put_heading(text, k);
-    if answer.status != 0 {
-        return put_refusal(text, at, answer);
+    put_heading(text, k);
+    match entry {
+        Ok(_) => put_picture(text, p, samples),
+        Err(refused) => put_refusal(text, refused),
     }
-    put_picture(text, at, p, samples)
 }
 
 // Puts how the first line of entry k starts.
-fn put_heading(text: &mut [u8], k: usize) -> usize
-    requires { 28 ≤ length text.old }
-    ensures put { Put 0 text.old (heading k) result text.new }
-    ensures upper_bound { result ≤ 28 }
+#[tactic(auto, unfolding(crate::specs::Output::heading, text::specs::Text::ascii))]
+fn put_heading(text: &mut TextBuffer<TEXT_ROOM>, k: usize)
+    requires { length text.old + 28 ≤ 204800 }
+    ensures put { text.new ≡ text.old ++ heading k }
+    ensures upper_bound { length text.new ≤ length text.old + 28 }
 {
-    let word = put_word(text, 0, b"entry ");
-    let number = put_decimal(text, word, k as u64);
-    put_word(text, number, b": ")
+    text.put_word(b"entry ");
+    text.put_decimal(k as u64);
+    text.put_word(b": ");
 }
 
 // Puts the rest of the line of a refused entry.
-fn put_refusal(text: &mut [u8], at: usize, answer: Answer) -> usize
-    requires { at + 56 ≤ length text.old }
-    ensures put { Put at text.old (refusal_text answer.status answer.place) result text.new }
-    ensures upper_bound { result ≤ at + 56 }
+#[tactic(auto, unfolding(crate::specs::Output::refusal_text, text::specs::Text::ascii))]
+fn put_refusal(text: &mut TextBuffer<TEXT_ROOM>, refused: Refused)
+    requires { length text.old + 56 ≤ 204800 }
+    ensures { text.new ≡ text.old ++ refusal_text (number_of refused.refusal) refused.place }
 {
-    let word = put_word(text, at, b"refused ");
-    let status = put_decimal(text, word, answer.status as u64);
-    let middle = put_word(text, status, b" place ");
-    let place = put_decimal(text, middle, answer.place as u64);
-    put_word(text, place, b"\n")
+    text.put_word(b"refused ");
+    text.put_decimal(u64::from(refused.refusal.number()));
+    text.put_word(b" place ");
+    text.put_decimal(refused.place as u64);
+    text.put_word(b"\n");
 }
 
 // Puts the sizes of an accepted entry, which end its first line.
-fn put_size(text: &mut [u8], at: usize, p: Parameters) -> usize
-    requires { at + 44 ≤ length text.old }
-    ensures put { Put at text.old (size_text p) result text.new }
-    ensures upper_bound { result ≤ at + 44 }
+#[tactic(auto, unfolding(crate::specs::Output::size_text, text::specs::Text::ascii))]
+fn put_size(text: &mut TextBuffer<TEXT_ROOM>, p: Parameters)
+    requires { length text.old + 44 ≤ 204800 }
+    ensures put { text.new ≡ text.old ++ size_text p }
+    ensures upper_bound { length text.new ≤ length text.old + 44 }
 {
-    let width = put_decimal(text, at, p.width as u64);
-    let middle = put_word(text, width, b" x ");
-    let height = put_decimal(text, middle, p.height as u64);
-    put_word(text, height, b"\n")
+    text.put_decimal(u64::from(p.width));
+    text.put_word(b" x ");
+    text.put_decimal(u64::from(p.height));
+    text.put_word(b"\n");
 }
 
 // Puts the rest of the lines of an accepted entry.
-fn put_picture(text: &mut [u8], at: usize, p: Parameters, samples: &[i32]) -> usize
+#[tactic(auto, unfolding(crate::specs::Output::picture_text))]
+fn put_picture(text: &mut TextBuffer<TEXT_ROOM>, p: Parameters, samples: &[i32])
     requires samples_len { length samples.now ≡ p.width * p.height }
-    requires height_in_bounds { at + 12 * (p.width * p.height) + p.height + 65 ≤ length text.old }
-    ensures put { Put at text.old (picture_text p samples.now) result text.new }
-    ensures upper_bound { result ≤ at + 12 * (p.width * p.height) + p.height + 44 }
+    requires height_in_bounds { length text.old + 12 * (p.width * p.height) + p.height + 65 ≤ 204800 }
+    ensures { text.new ≡ text.old ++ picture_text p samples.now }
 {
-    let first = put_size(text, at, p);
-    put_rows(text, first, samples, p.width as usize, p.height as usize)
+    put_size(text, p);
+    text.put_rows(samples, p.width as usize, p.height as usize);
 }

@@ -9,6 +9,9 @@ use native.Mathlib.Decide.{dec_lt}
 use native.Mathlib.Omega.{arith}
 use lib.IntN.{ℤ, pos}
 use lib.ListN.{length, get_or, set}
+use Rattle.std.specs.Prelude.{Result, Ok}
+use Rattle.std.proofs.lemmas.Bool.{true≢false}
+use Rattle.base.specs.declared.status.Fault.{Fault}
 use Rattle.base.proofs.WalkLaws.{walk_same}
 use Rattle.exp_golomb.specs.Begins.{Begins}
 use Rattle.exp_golomb.proofs.BeginsLaws.{begins-itself}
@@ -17,11 +20,8 @@ use Rattle.coefficients.specs.Values.{after, index_of, entry, entries, Ready}
 use Rattle.coefficients.specs.Portions.{Sound, CloseToEnd, Reads}
 use Rattle.coefficients.specs.declared.reading.Cursor.{Cursor}
 use Rattle.coefficients.specs.declared.reading.Portion.{Portion}
-use Rattle.coefficients.specs.declared.reading.Progress.{Progress}
-use Rattle.coefficients.specs.declared.reading.Progress.TheVariants.{At}
 use Rattle.coefficients.specs.declared.reading.Rectangle.{Rectangle}
 use Rattle.coefficients.specs.declared.values.Layout.{Layout}
-use Rattle.coefficients.proofs.PortionsLaws.{true-never}
 use Rattle.coefficients.proofs.ValuesLaws.{entries-keep, index-grows}
 use Rattle.rectangles.specs.Areas.{size_of, value_index, area_values, Inside, ClearFrom}
 use Rattle.rectangles.specs.Layouts.{Covers}
@@ -37,18 +37,18 @@ pub moved-sound : (c : Cursor) (bit : ℕ) → bit ≤ c.end → Sound c → Sou
 moved-sound c bit early sound = record { before_end = early; small = sound.small }
 
 -- Values from value `from` on have been read into a plane, up to value i.
-pub record SoFar (bytes : List ℕ) (c : Cursor) (scale : ℕ → ℕ) (a : Rectangle) (from : ℕ) (plane : List ℤ) (progress : Progress) (i : ℕ) (last : List ℤ) : Type 0 where
+pub record SoFar (bytes : List ℕ) (c : Cursor) (scale : ℕ → ℕ) (a : Rectangle) (from : ℕ) (plane : List ℤ) (progress : Result ℕ Fault) (i : ℕ) (last : List ℤ) : Type 0 where
   pub values : (whole : List ℕ) (end : ℕ) → Begins c.stated bytes c.end whole end →
       area_values whole end c.origin scale a from (goes_on c.bit plane) ≡ area_values whole end c.origin scale a i (after progress last)
   pub onward : from ≤ i
   pub same_length : length last ≡ length plane
   pub kept : (j : ℕ) → ((k : ℕ) → k < size_of a → value_index a k ≢ j) → get_or last j (pos 0) ≡ get_or plane j (pos 0)
   pub clear : ClearFrom a i last
-  pub before_end : (next : ℕ) → progress ≡ At next → next ≤ c.end
+  pub before_end : (next : ℕ) → progress ≡ Ok next → next ≤ c.end
 
 -- none yet
 pub so-far-none : (bytes : List ℕ) (c : Cursor) (scale : ℕ → ℕ) (a : Rectangle) (from : ℕ) (plane : List ℤ) → ClearFrom a from plane → Sound c →
-    SoFar bytes c scale a from plane (At c.bit) from plane
+    SoFar bytes c scale a from plane (Ok c.bit) from plane
 so-far-none bytes c scale a from plane clear sound =
     record {
       values = λ whole end begins. refl;
@@ -113,7 +113,7 @@ module _ (a : Rectangle) (i : ℕ) (l : Layout) (covers : Covers a i l) where
         ∙ ap (area_values whole end c.origin scale a (i + r.count)) (run-read whole end begins)
 
     -- so the values are read up to the last of the run
-    pub so-far-on : (from : ℕ) (first : List ℤ) → a.width ≤ a.stride → SoFar bytes c scale a from first (At bit) i plane → length last ≡ length plane →
+    pub so-far-on : (from : ℕ) (first : List ℤ) → a.width ≤ a.stride → SoFar bytes c scale a from first (Ok bit) i plane → length last ≡ length plane →
         SoFar bytes c scale a from first r.progress (i + r.count) last
     so-far-on from first wide sofar same =
         let room : i + r.count ≤ size_of a = omega (arith, covers.few) in
@@ -133,8 +133,8 @@ module _ (a : Rectangle) (i : ℕ) (l : Layout) (covers : Covers a i l) where
         }
 
 -- Where reading ends, that is the contract: it was refused or has all values, or the next value is not all there.
-module _ (bytes : List ℕ) (c : Cursor) (scale : ℕ → ℕ) (a : Rectangle) (from : ℕ) (plane : List ℤ) (progress : Progress) (count : ℕ) (last : List ℤ) (sofar : SoFar bytes c scale a from plane progress count last) where
-  pub reads_over : ((next : ℕ) → progress ≡ At next → size_of a ≤ count) → ReadsOn bytes c scale a from plane (record { count = count; progress = progress; short = false }) last
+module _ (bytes : List ℕ) (c : Cursor) (scale : ℕ → ℕ) (a : Rectangle) (from : ℕ) (plane : List ℤ) (progress : Result ℕ Fault) (count : ℕ) (last : List ℤ) (sofar : SoFar bytes c scale a from plane progress count last) where
+  pub reads_over : ((next : ℕ) → progress ≡ Ok next → size_of a ≤ count) → ReadsOn bytes c scale a from plane (record { count = count; progress = progress; short = false }) last
   reads_over over =
       record {
         values = sofar.values;
@@ -142,7 +142,7 @@ module _ (bytes : List ℕ) (c : Cursor) (scale : ℕ → ℕ) (a : Rectangle) (
         kept = sofar.kept;
         clear = sofar.clear;
         before_end = sofar.before_end;
-        close_to_end = λ e. true-never (sym e);
+        close_to_end = λ e. absurd (true≢false (sym e));
         full = λ e. refl;
         over = λ next e f. over next e;
       }
@@ -157,5 +157,5 @@ module _ (bytes : List ℕ) (c : Cursor) (scale : ℕ → ℕ) (a : Rectangle) (
         before_end = sofar.before_end;
         close_to_end = λ e. close_to_end;
         full = full;
-        over = λ next e f. true-never f;
+        over = λ next e f. absurd (true≢false f);
       }

@@ -1,12 +1,11 @@
 -- The code's own form: values of a rectangle that are read as far as the data at hand go. No definition of the format rests on it.
-use Rattle.std.specs.Prelude.{ℕ, ◌≤◌, ◌<◌, ◌≡◌, ◌≢◌, true, false, List, ℤ, pos, get_or}
+use Rattle.std.specs.Prelude.{ℕ, ◌≤◌, ◌<◌, ◌≡◌, ◌≢◌, true, false, Ok, List, ℤ, pos, get_or}
 use Rattle.exp_golomb.specs.Begins.{Begins}
 use Rattle.coefficients.specs.Reading.{goes_on}
 use Rattle.coefficients.specs.Values.{after}
 use Rattle.coefficients.specs.Portions.{CloseToEnd}
 use Rattle.coefficients.specs.declared.reading.Cursor.{Cursor}
 use Rattle.coefficients.specs.declared.reading.Portion.{Portion}
-use Rattle.coefficients.specs.declared.reading.Progress.TheVariants.{At}
 use Rattle.coefficients.specs.declared.reading.Rectangle.{Rectangle}
 use Rattle.rectangles.specs.Areas.{size_of, value_index, area_values, ClearFrom}
 
@@ -17,7 +16,7 @@ pub record ReadsOn (bytes : List ℕ) (c : Cursor) (scale : ℕ → ℕ) (a : Re
   pub onward : from ≤ r.count
   pub kept : (j : ℕ) → ((i : ℕ) → i < size_of a → value_index a i ≢ j) → get_or last j (pos 0) ≡ get_or plane j (pos 0)
   pub clear : ClearFrom a r.count last
-  pub before_end : (next : ℕ) → r.progress ≡ At next → next ≤ c.end
+  pub before_end : (next : ℕ) → r.progress ≡ Ok next → next ≤ c.end
   pub close_to_end : r.short ≡ true → CloseToEnd bytes c.end r.progress
   pub full : c.stated ≡ true → r.short ≡ false
-  pub over : (next : ℕ) → r.progress ≡ At next → r.short ≡ false → size_of a ≤ r.count
+  pub over : (next : ℕ) → r.progress ≡ Ok next → r.short ≡ false → size_of a ≤ r.count

@@ -2,16 +2,14 @@
 #![tactic(auto)]
 
 ghost use Rattle.std.specs.Prelude.{◌≤◌, ◌<◌, ◌^◌};
-ghost use Rattle.coefficients.specs.Values.{Decoding};
 ghost use Rattle.coefficients.specs.Portions.{Sound};
 ghost use Rattle.coefficients.specs.Scaling.{scale_of};
 ghost use Rattle.rectangles.specs.Areas.{size_of, value_index, Inside, ClearFrom};
 ghost use Rattle.rectangles.specs.Layouts.{Covers};
 ghost use Rattle.rectangles.specs.Portions.{ReadsOn};
 
-use coefficients::quantiser::Quantiser;
-use coefficients::reading::{Cursor, Portion, Progress, Rectangle};
-use coefficients::values::{Layout, read_run};
+use coefficients::reading::{Cursor, Portion, Rectangle};
+use coefficients::values::{Decoder, Layout, read_run};
 
 // Reads the values of a rectangle from one on: of data of a stated length all, or up to one that is refused; of other data until bits are
 // wanting (see read_run). The count is of all its values that have been read, those before the first included.
@@ -21,32 +19,30 @@ pub fn read_values(
     from: usize,
     bytes: &[u8],
     cursor: Cursor,
-    q: Quantiser,
-    table: &[u16; 256],
-    small: &[i32; 32],
+    decoder: Decoder,
 ) -> Portion
-    requires { Inside area plane.old × ClearFrom area from plane.old × Sound cursor × Decoding q table.now small.now }
-    ensures { ReadsOn bytes.now cursor (scale_of q) area from plane.old result plane.new }
+    requires { Inside area plane.old × ClearFrom area from plane.old × Sound cursor }
+    ensures { ReadsOn bytes.now cursor (scale_of decoder.entry.q) area from plane.old result plane.new }
 {
     let total = area.height * area.width;
     let mut next = cursor;
     let mut i = from;
+    // By as many as were read.
     while i < total {
         let layout = layout_of(area, i);
-        let part = read_run(plane, layout, i, bytes, next, q, table, small);
+        let part = read_run(plane, layout, i, bytes, next, decoder);
         i += part.count;
-        let progress = part.progress;
-        let Progress::At { bit } = progress else {
+        let Ok(bit) = part.progress else {
             return Portion {
                 count: i,
-                progress,
+                progress: part.progress,
                 short: false,
             };
         };
         if part.short {
             return Portion {
                 count: i,
-                progress,
+                progress: part.progress,
                 short: true,
             };
         }
@@ -54,7 +50,7 @@ pub fn read_values(
     }
     Portion {
         count: i,
-        progress: Progress::At { bit: next.bit },
+        progress: Ok(next.bit),
         short: false,
     }
 }

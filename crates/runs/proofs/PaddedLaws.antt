@@ -13,8 +13,7 @@ use lib.Pow.{pow_pos, pow-add, shr-shr}
 use borrow.Author.Tests.{lt-ltb, le-ltb, ltb-false}
 use Rattle.base.specs.Lists.{tabulate}
 use Rattle.base.proofs.ListsLaws.{length-tabulate, get_d_tabulate}
-use Rattle.exp_golomb.specs.Bits.{bit_at, bits_from, present, take_bit}
-use Rattle.exp_golomb.specs.declared.bits.Bit.TheVariants.{Taken}
+use Rattle.exp_golomb.specs.Bits.{Taken, bit_at, bits_from, present, take_bit}
 use Rattle.exp_golomb.proofs.BitsLaws.{bit-small, present-below, present-past-end, take-present, take-past-stated}
 use Rattle.exp_golomb.proofs.Moved.{Has}
 use Rattle.lookups.specs.Windows.{window_of, Ahead}

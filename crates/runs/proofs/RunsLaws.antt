@@ -11,30 +11,27 @@ use lib.IntN.{ℤ, pos}
 use lib.ListN.{length, get_or, set}
 use lib.Seq.{set-get_or}
 use borrow.Author.Tests.{le-ltb}
+use Rattle.std.specs.Prelude.{Ok}
+use Rattle.std.proofs.lemmas.Bool.{true≢false}
 use Rattle.base.specs.Range.{fits32}
 use Rattle.base.specs.Sign.{with_sign}
 use Rattle.base.specs.Walk.{walk}
 use Rattle.exp_golomb.specs.Begins.{Begins}
 use Rattle.exp_golomb.specs.Bits.{present}
-use Rattle.exp_golomb.specs.Codes.{code_from, unsigned, signed}
-use Rattle.exp_golomb.specs.declared.codes.Number.{Number}
-use Rattle.exp_golomb.specs.declared.codes.Number.TheVariants.{Read, Missing, TooLong}
+use Rattle.exp_golomb.specs.Codes.{Number, Read, Missing, TooLong, code_from, unsigned, signed}
 use Rattle.exp_golomb.proofs.BeginsLaws.{bit-begins}
 use Rattle.exp_golomb.proofs.BitsLaws.{take-past-stated}
 use Rattle.exp_golomb.proofs.CodesLaws.{code-ends, sign-none}
 use Rattle.exp_golomb.proofs.Moved.{Has, signed-moved}
-use Rattle.coefficients.specs.Reading.{Run, goes_on, stops, value}
+use Rattle.coefficients.specs.Reading.{Progress, At, Refused, Run, goes_on, stops, value}
 use Rattle.coefficients.specs.Scaling.{Small}
 use Rattle.coefficients.specs.Values.{after, index_of, entry, entries, Ready}
 use Rattle.coefficients.specs.Portions.{Sound, Reads}
 use Rattle.coefficients.specs.Batches.{ReadsAhead}
 use Rattle.coefficients.specs.declared.reading.Cursor.{Cursor}
 use Rattle.coefficients.specs.declared.reading.Portion.{Portion}
-use Rattle.coefficients.specs.declared.reading.Progress.{Progress}
-use Rattle.coefficients.specs.declared.reading.Progress.TheVariants.{At, Refused}
 use Rattle.coefficients.specs.declared.values.Batch.{Batch}
 use Rattle.coefficients.specs.declared.values.Layout.{Layout}
-use Rattle.coefficients.proofs.PortionsLaws.{refused-never, true-never}
 use Rattle.coefficients.proofs.ReadingLaws.{store-fits, store_out, value_read, value-refused}
 use Rattle.coefficients.proofs.ScalingLaws.{sign_fits}
 use Rattle.coefficients.proofs.ValuesLaws.{entries-stay, entries_none, entries-more, entries-adds, entries-keep}
@@ -44,7 +41,10 @@ use Rattle.runs.proofs.PaddedLaws.{padded, padded-ahead, padded-has}
 
 -- a run that was refused does not go on
 stops-never : {P : Type 0} (status bit next : ℕ) (plane last : List ℤ) → stops status bit plane ≡ goes_on next last → P
-stops-never status bit next plane last e = refused-never (Refused status bit) status bit next refl (ap (λ (r : Run). r.progress) e)
+stops-never status bit next plane last e =
+    let other : Refused status bit ≡ At next = ap (λ (r : Run). r.progress) e in
+    let z : ◌≡◌ {A = ℕ} 0 1 = cc in
+    absurd (omega arith)
 
 -- where data a have all bits of data b, values that b has are a's too
 module _ (f : ℕ → ℕ) (a : List ℕ) (end_a : ℕ) (b : List ℕ) (end_b : ℕ)
@@ -94,7 +94,7 @@ module _ (f : ℕ → ℕ) (a : List ℕ) (end_a : ℕ) (b : List ℕ) (end_b : 
       by (entry b end_b origin scale index i (goes_on at plane)).progress (entry b end_b origin scale index i (goes_on at plane)).plane refl
       (λ bit first. values_moved (suc i) n bit next first last)
     where
-      by : (progress : Progress) (first : List ℤ) → entry b end_b origin scale index i (goes_on at plane) ≡ after progress first →
+      by : (progress : Progress) (first : List ℤ) → entry b end_b origin scale index i (goes_on at plane) ≡ record { progress = progress; plane = first } →
           ((bit : ℕ) (l : List ℤ) → entries b end_b origin scale index (suc i) n (goes_on bit l) ≡ goes_on next last →
           entries a end_a origin scale index (suc i) n (goes_on (f bit) l) ≡ goes_on (f next) last) →
           entries a end_a origin scale index (suc i) n (entry a end_a origin scale index i (goes_on (f at) plane)) ≡ goes_on (f next) last
@@ -126,7 +126,7 @@ module _ (bytes : List ℕ) (c : Cursor) (scale index : ℕ → ℕ) (i w : ℕ)
   abbrev cut : ℕ → ℕ
   cut k = min k (min c.end (8 * length bytes))
 
-  pub portion-padded : (bit : ℕ) → bit ≡ min (c.bit + r.bits) c.end → Reads bytes c scale index i plane (record { count = r.count; progress = At bit; short = false }) last
+  pub portion-padded : (bit : ℕ) → bit ≡ min (c.bit + r.bits) c.end → Reads bytes c scale index i plane (record { count = r.count; progress = Ok bit; short = false }) last
   portion-padded bit is =
       record {
         values = λ whole end begins.
@@ -140,7 +140,7 @@ module _ (bytes : List ℕ) (c : Cursor) (scale index : ℕ → ℕ) (i w : ℕ)
         before_end = λ next on.
             let there : bit ≡ next = cc in
             omega arith;
-        close_to_end = λ e. true-never (sym e);
+        close_to_end = λ e. absurd (true≢false (sym e));
         full = λ e. refl;
       }
 
@@ -181,9 +181,6 @@ module _ (bytes : List ℕ) (end origin : ℕ) (scale index : ℕ → ℕ) (none
 pub side-index : (n : ℕ) → index_of (side_by_side n) ≡ (λ k. k)
 unfolding index_of
 side-index n = fun_ext (λ k. let row : k * 0 / 16777216 * 0 ≡ 0 = omega arith in omega arith)
-
-pub side-inside : (n from : ℕ) (run : List ℤ) → Ready (side_by_side n) from run → (k : ℕ) → k < n → k < length run
-side-inside n from run ready k below = rw (side-index n) at (ready.inside k below)
 
 pub side-ready : (n i : ℕ) (run₀ run : List ℤ) → Fresh n run₀ → length run ≡ length run₀ → i ≤ n → ((k : ℕ) → i ≤ k → k < n → get_or run k (pos 0) ≡ pos 0) →
     Ready (side_by_side n) i run

@@ -1,8 +1,7 @@
 -- The code's own forms: what values are read into, and from where. No definition of the format rests on them.
-use Rattle.std.specs.Prelude.{ℕ, ◌+◌, ◌*◌, ◌≤◌, ◌<◌, ◌^◌, ◌≡◌, true, List, ℤ, pos, length, get_or}
+use Rattle.std.specs.Prelude.{ℕ, ◌+◌, ◌*◌, ◌≤◌, ◌<◌, ◌^◌, ◌≡◌, true, Result, Ok, List, ℤ, pos, length, get_or}
+use Rattle.base.specs.declared.status.Fault.{Fault}
 use Rattle.coefficients.specs.declared.reading.Cursor.{Cursor}
-use Rattle.coefficients.specs.declared.reading.Progress.{Progress}
-use Rattle.coefficients.specs.declared.reading.Progress.TheVariants.{At}
 use Rattle.coefficients.specs.declared.values.Layout.{Layout}
 use Rattle.runs.specs.declared.Span.{Span}
 
@@ -29,5 +28,5 @@ pub record Inside (bytes : List ℕ) (c : Cursor) : Type 0 where
   pub small : c.origin + c.end < 2 ^ 63
 
 -- Where reading goes on, it does so no later than where the data end.
-abbrev pub BeforeEnd : ℕ → Progress → Type 0
-BeforeEnd end r = (next : ℕ) → r ≡ At next → next ≤ end
+abbrev pub BeforeEnd : ℕ → Result ℕ Fault → Type 0
+BeforeEnd end r = (next : ℕ) → r ≡ Ok next → next ≤ end

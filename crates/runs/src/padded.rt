@@ -40,12 +40,10 @@ fn few_bytes(bytes: &[u8], at: usize) -> u64
 {
     let i = at / 8;
     let mut w: u64 = 0;
-    let mut k = i;
-    while k < bytes.len() {
-        w = w * 256 + bytes[k] as u64;
-        k += 1;
+    for byte in &bytes[i..] {
+        w = w * 256 + u64::from(*byte);
     }
-    w << (64 - 8 * (k - i) + at % 8)
+    w << (64 - 8 * (bytes.len() - i) + at % 8)
 }
 
 // The first n bits of a window, and ones after them.

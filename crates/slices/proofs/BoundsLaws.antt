@@ -12,11 +12,8 @@ use lib.ListN.{length, set}
 use lib.Seq.{get_or-set_same, get_or-set_other}
 use Rattle.coefficients.specs.Quantiser.{dequantise}
 use Rattle.coefficients.specs.Scaling.{scale_of, small_fit, Small}
-use Rattle.coefficients.specs.declared.quantiser.Quantiser.{Quantiser}
+use Rattle.coefficients.specs.declared.reading.Quantiser.{Quantiser}
 use Rattle.slices.specs.Bounds.{KnowsSmall}
-
-pub small-none : (intra : Bool) (table : List (List ℤ)) → KnowsSmall intra 0 table
-small-none intra table = record { each = λ index below. absurd (omega arith) }
 
 -- what a quantiser makes of small sizes is what every quantiser of the index makes of them
 pub small-more : (intra : Bool) (n : ℕ) (table : List (List ℤ)) (small : List ℤ) (q : Quantiser) → n < length table → KnowsSmall intra n table → scale_of q ≡ dequantise intra n →

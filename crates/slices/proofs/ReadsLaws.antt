@@ -12,24 +12,23 @@ use native.Mathlib.Omega.{arith}
 use lib.IntN.{ℤ, pos}
 use lib.ListN.{length, get_or, set, replicate, length-set, length-replicate}
 use lib.Seq.{get_or-set_same, get_or-set_other}
+use Rattle.std.specs.Prelude.{Result, Ok, Err}
 use Rattle.base.specs.Fill.{fill}
 use Rattle.base.specs.Range.{fits32}
+use Rattle.base.specs.Refusals.{number_of}
 use Rattle.base.specs.Sign.{with_sign}
 use Rattle.base.specs.Walk.{walk}
+use Rattle.base.specs.declared.status.Fault.{Fault}
 use Rattle.base.proofs.WalkLaws.{walk_none, walk_more, walk_same, walk-flat, walk-next, walk-stopped}
 use Rattle.base.proofs.FillLaws.{length-fill, get_d-fill-start, get_d-fill-out}
-use Rattle.exp_golomb.specs.Codes.{status_of, next_of, signed}
-use Rattle.exp_golomb.specs.declared.codes.Number.{Number}
-use Rattle.exp_golomb.specs.declared.codes.Number.TheVariants.{Read, Missing, TooLong}
-use Rattle.coefficients.specs.Reading.{RunOf, Run, goes_on, stops, value}
+use Rattle.exp_golomb.specs.Codes.{Number, Read, Missing, TooLong, status_of, next_of, signed}
+use Rattle.coefficients.specs.Reading.{At, Refused, RunOf, Run, goes_on, stops, value}
 use Rattle.coefficients.specs.Values.{after, entry, entries}
-use Rattle.coefficients.specs.declared.reading.Progress.{Progress}
-use Rattle.coefficients.specs.declared.reading.Progress.TheVariants.{At, Refused}
 use Rattle.coefficients.specs.declared.reading.Rectangle.{Rectangle}
 use Rattle.coefficients.proofs.ReadingLaws.{Stays, walk-keeps, store-fits, store_out, value_stays, value-refused, value_read}
 use Rattle.coefficients.proofs.PortionsLaws.{refused-never}
 use Rattle.coefficients.proofs.ValuesLaws.{entries_none, entries-more, entries-keep}
-use Rattle.runs.specs.Runs.{Fresh, SoundSpan}
+use Rattle.runs.specs.Runs.{SoundSpan}
 use Rattle.runs.specs.declared.Span.{Span}
 use Rattle.slices.specs.Planes.{Planes, in_luma, in_first, in_second}
 use Rattle.slices.specs.Parts.{PartData, entry_values, area_values}
@@ -189,10 +188,6 @@ zero-at (suc n) (suc k) = zero-at n k
 pub blank-zeros : Blank (replicate 8192 (pos 0))
 blank-zeros = record { room = rw (length-replicate {A = ℤ} 8192 (pos 0)) (omega arith); zeros = zero-at 8192 }
 
--- the first entries of a blank run hold zeros, as many as it has room for
-pub fresh : (n : ℕ) (run : List ℤ) → n ≤ 8192 → Blank run → Fresh n run
-fresh n run few blank = record { few = omega arith; room = omega (arith, blank.room); zeros = λ k below. blank.zeros k }
-
 -- a run is blank again once the values that were read into it are cleared
 pub blank-again : (bytes : List ℕ) (end origin : ℕ) (scale : ℕ → ℕ) (n bit : ℕ) (run values : List ℤ) (next : ℕ) → n ≤ 8192 → Blank run → length values ≡ length run →
     goes_on next values ≡ entries bytes end origin scale (λ k. k) 0 n (goes_on bit run) → Blank (fill values 0 n (λ k. pos 0))
@@ -210,6 +205,36 @@ blank-again bytes end origin scale n bit run values next few blank long e =
           ];
     }
 
+-- a run that a definition stops is left so, whatever the planes are
+pub left-refused : (end : ℕ) (fault : Fault) (planes last : Planes) (run : List ℤ) (r : RunOf Planes) → stops (number_of fault.refusal) fault.bit planes ≡ r → Left end (Err fault) last run r
+left-refused end fault planes last run r is =
+    record {
+      progress_is = ap (λ (t : RunOf Planes). t.progress) is;
+      planes_are = λ b on. refused-never (Err fault) fault b refl on;
+      before_end = λ b on. refused-never (Err fault) fault b refl on;
+      run_blank = λ b on. refused-never (Err fault) fault b refl on;
+    }
+
+-- and what was left of a refused run is one that a definition stops
+pub left-stops : (end : ℕ) (fault : Fault) (last : Planes) (run : List ℤ) (r : RunOf Planes) → Left end (Err fault) last run r → r ≡ stops (number_of fault.refusal) fault.bit r.plane
+left-stops end fault last run r left = rw left.progress_is refl
+
+-- a run that goes on is left so
+pub left-goes : (end bit : ℕ) (planes : Planes) (run : List ℤ) (r : RunOf Planes) → r ≡ goes_on bit planes → bit ≤ end → Blank run → Left end (Ok bit) planes run r
+left-goes end bit planes run r is before blank =
+    record {
+      progress_is = ap (λ (t : RunOf Planes). t.progress) (sym is);
+      planes_are = λ b on. ap (λ (t : RunOf Planes). t.plane) (sym is);
+      before_end = λ b on. let here : b ≡ bit = cc in omega arith;
+      run_blank = λ b on. blank;
+    }
+
+-- and what was left of a run that goes on is that run
+pub left-on : (end bit : ℕ) (planes : Planes) (run : List ℤ) (r : RunOf Planes) → Left end (Ok bit) planes run r → r ≡ goes_on bit planes
+left-on end bit planes run r left =
+    let planes_are : planes ≡ r.plane = left.planes_are bit refl in
+    rw (planes_are, left.progress_is) refl
+
 -- what reading a rectangle through a run left
 module _ (bytes : List ℕ) (s : Span) (scale : ℕ → ℕ) (holder : Holder) (a : Rectangle) (n : ℕ) (run : List ℤ) (p : Planes) (many : n ≡ a.height * a.width * turns holder) (few : n ≤ 8192)
     (blank : Blank run) where
@@ -222,78 +247,38 @@ module _ (bytes : List ℕ) (s : Span) (scale : ℕ → ℕ) (holder : Holder) (
   enough : a.height * (a.width * turns holder) ≤ length run
   enough = omega (arith, all, blank.room)
 
-  pub left-stopped : (status at : ℕ) (last : List ℤ) (planes : Planes) (progress : Progress) → progress ≡ Refused status at → after progress last ≡ values →
-      Left s.end progress planes last (area_values (data_of bytes s) scale holder a (goes_on s.bit p))
-  left-stopped status at last planes progress told e =
-      record {
-        progress_is = told ∙ area-stopped (data_of bytes s) scale holder a s.bit run p enough status at last (rw all at (sym (rw told at e)));
-        planes_are = λ bit on. refused-never progress status at bit told on;
-        before_end = λ bit on. refused-never progress status at bit told on;
-        run_blank = λ bit on. refused-never progress status at bit told on;
-      }
+  pub left-stopped : (fault : Fault) (last : List ℤ) (planes : Planes) → after (Err fault) last ≡ values → Left s.end (Err fault) planes last (area_values (data_of bytes s) scale holder a (goes_on s.bit p))
+  left-stopped fault last planes e =
+      let is : Refused (number_of fault.refusal) fault.bit ≡ (area_values (data_of bytes s) scale holder a (goes_on s.bit p)).progress =
+      area-stopped (data_of bytes s) scale holder a s.bit run p enough (number_of fault.refusal) fault.bit last (rw all at (sym e)) in
+      left-refused s.end fault (area_values (data_of bytes s) scale holder a (goes_on s.bit p)).plane planes last _ (rw is refl)
 
-  pub left-stored : (next : ℕ) (last : List ℤ) (planes : Planes) (cleared : List ℤ) (progress : Progress) → progress ≡ At next → after progress last ≡ values → length last ≡ length run →
-      next ≤ s.end → planes ≡ stored_rows holder a last a.height p → cleared ≡ fill last 0 n (λ k. pos 0) →
-      Left s.end progress planes cleared (area_values (data_of bytes s) scale holder a (goes_on s.bit p))
-  left-stored next last planes cleared progress told e long before stored clear =
-      let is = rw told at e in
-      let read = area-read (data_of bytes s) scale holder a s.bit run p enough next last (rw all at (sym is)) in
-      record {
-        progress_is = told ∙ ap (λ (r : RunOf Planes). r.progress) (sym read);
-        planes_are = λ bit on. stored ∙ ap (λ (r : RunOf Planes). r.plane) (sym read);
-        before_end = λ bit on. let same_bit : At bit ≡ At next = sym on ∙ told in let is-next : bit ≡ next = cc in omega arith;
-        run_blank = λ bit on. rw clear (blank-again bytes s.end s.origin scale n s.bit run last next few blank long is);
-      }
-
--- a run that goes on after a step is what the step left
-pub left-on : (end : ℕ) (progress : Progress) (planes : Planes) (run : List ℤ) (r : RunOf Planes) → Left end progress planes run r → (bit : ℕ) → progress ≡ At bit → r ≡ goes_on bit planes
-left-on end progress planes run r left bit on =
-    let at-is : r.progress ≡ At bit = sym left.progress_is ∙ on in
-    let planes_are : r.plane ≡ planes = sym (left.planes_are bit on) in
-    rw (← planes_are, ← at-is) refl
-
--- a run that a definition stops is left so
-pub left-refused : (end status at : ℕ) (planes last : Planes) (run : List ℤ) (r : RunOf Planes) → stops status at planes ≡ r → Left end (Refused status at) last run r
-left-refused end status at planes last run r is =
-    record {
-      progress_is = ap (λ (t : RunOf Planes). t.progress) is;
-      planes_are = λ b on. refused-never (Refused status at) status at b refl on;
-      before_end = λ b on. refused-never (Refused status at) status at b refl on;
-      run_blank = λ b on. refused-never (Refused status at) status at b refl on;
-    }
+  pub left-stored : (next : ℕ) (last : List ℤ) (planes : Planes) (cleared : List ℤ) → after (Ok next) last ≡ values → length last ≡ length run → next ≤ s.end →
+      planes ≡ stored_rows holder a last a.height p → cleared ≡ fill last 0 n (λ k. pos 0) →
+      Left s.end (Ok next) planes cleared (area_values (data_of bytes s) scale holder a (goes_on s.bit p))
+  left-stored next last planes cleared e long before stored clear =
+      left-goes s.end next planes cleared _ (rw stored (area-read (data_of bytes s) scale holder a s.bit run p enough next last (rw all at (sym e)))) before
+      (rw clear (blank-again bytes s.end s.origin scale n s.bit run last next few blank long e))
 
 -- steps one after the other, each of which leaves what its definition says: so far, refused, and all of them
 module _ (f : ℕ → RunOf Planes → RunOf Planes) (stays : (k : ℕ) → Stays (f k)) (end : ℕ) (s : RunOf Planes) where
   pub walked_none : (bit : ℕ) (planes : Planes) → s ≡ goes_on bit planes → walk f 0 0 s ≡ goes_on bit planes
   walked_none bit planes is = walk_none f 0 s ∙ is
 
-  pub walked_more : (n bit : ℕ) (planes last : Planes) (run : List ℤ) (progress : Progress) (next : ℕ) → walk f 0 n s ≡ goes_on bit planes → progress ≡ At next →
-      Left end progress last run (f n (goes_on bit planes)) → walk f 0 (n + 1) s ≡ goes_on next last
-  walked_more n bit planes last run progress next sofar on left = walk-next f n s (goes_on bit planes) (goes_on next last) sofar (left-on end progress last run _ left next on)
+  pub walked_more : (n bit : ℕ) (planes last : Planes) (run : List ℤ) (next : ℕ) → walk f 0 n s ≡ goes_on bit planes → Left end (Ok next) last run (f n (goes_on bit planes)) →
+      walk f 0 (n + 1) s ≡ goes_on next last
+  walked_more n bit planes last run next sofar left = walk-next f n s (goes_on bit planes) (goes_on next last) sofar (left-on end next last run _ left)
 
-  pub walked_stop : (n m bit : ℕ) (planes last : Planes) (run : List ℤ) (progress : Progress) (status at : ℕ) → n < m → walk f 0 n s ≡ goes_on bit planes → progress ≡ Refused status at →
-      Left end progress last run (f n (goes_on bit planes)) → Left end progress last run (walk f 0 m s)
-  walked_stop n m bit planes last run progress status at below sofar told left =
+  pub walked_stop : (n m bit : ℕ) (planes last : Planes) (run : List ℤ) (fault : Fault) → n < m → walk f 0 n s ≡ goes_on bit planes → Left end (Err fault) last run (f n (goes_on bit planes)) →
+      Left end (Err fault) last run (walk f 0 m s)
+  walked_stop n m bit planes last run fault below sofar left =
+      let status = number_of fault.refusal in
       let q = (f n (goes_on bit planes)).plane in
-      let stopped : f n (goes_on bit planes) ≡ stops status at q = let is : (f n (goes_on bit planes)).progress ≡ Refused status at = sym left.progress_is ∙ told in rw (← is) refl in
-      let whole : walk f 0 m s ≡ stops status at q =
-      walk-stopped f (n + 1) m s (stops status at q) (omega arith) (walk-next f n s (goes_on bit planes) (stops status at q) sofar stopped) (λ k. stays k status at q) in
-      record {
-        progress_is = told ∙ ap (λ (r : RunOf Planes). r.progress) (sym whole);
-        planes_are = λ b on. refused-never progress status at b told on;
-        before_end = λ b on. refused-never progress status at b told on;
-        run_blank = λ b on. refused-never progress status at b told on;
-      }
+      let stopped = walk-next f n s (goes_on bit planes) (stops status fault.bit q) sofar (left-stops end fault last run _ left) in
+      left-refused end fault q last run _ (sym (walk-stopped f (n + 1) m s (stops status fault.bit q) (omega arith) stopped (λ k. stays k status fault.bit q)))
 
-  pub walked_all : (n m bit : ℕ) (planes : Planes) (run : List ℤ) → n ≡ m → walk f 0 n s ≡ goes_on bit planes → bit ≤ end → Blank run → Left end (At bit) planes run (walk f 0 m s)
-  walked_all n m bit planes run last sofar before blank =
-      let whole : walk f 0 m s ≡ goes_on bit planes = rw last at sofar in
-      record {
-        progress_is = ap (λ (r : RunOf Planes). r.progress) (sym whole);
-        planes_are = λ b on. ap (λ (r : RunOf Planes). r.plane) (sym whole);
-        before_end = λ b on. let is : b ≡ bit = cc in omega arith;
-        run_blank = λ b on. blank;
-      }
+  pub walked_all : (n m bit : ℕ) (planes : Planes) (run : List ℤ) → n ≡ m → walk f 0 n s ≡ goes_on bit planes → bit ≤ end → Blank run → Left end (Ok bit) planes run (walk f 0 m s)
+  walked_all n m bit planes run last sofar before blank = left-goes end bit planes run _ (rw last at sofar) before blank
 
 -- a rectangle is its rows, one after the other; a refused run stays as it is; and only the end and the origin of its data matter
 module _ (d : PartData) (scale : ℕ → ℕ) (holder : Holder) where
@@ -343,7 +328,7 @@ module _ (bytes : List ℕ) (s t : Span) (end-same : t.end ≡ s.end) (origin-sa
       (λ x within v. entry-moved (a.start + (0 + y) * a.stride + (0 + x)) v))
 
   -- what reading from it left
-  pub left-again : (progress : Progress) (planes : Planes) (run : List ℤ) (a : Rectangle) (r : RunOf Planes) →
+  pub left-again : (progress : Result ℕ Fault) (planes : Planes) (run : List ℤ) (a : Rectangle) (r : RunOf Planes) →
       Left t.end progress planes run (area_values (data_of bytes t) scale holder a r) → Left s.end progress planes run (area_values (data_of bytes s) scale holder a r)
   left-again progress planes run a r left =
       subst (λ (n : ℕ). Left n progress planes run (area_values (data_of bytes s) scale holder a r)) end-same (rw (area-moved a r) at left)

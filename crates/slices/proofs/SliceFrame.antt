@@ -9,9 +9,7 @@ use lib.ListN.{length, get_or, set, length-set}
 use lib.Seq.{get_or-set_other}
 use Rattle.base.proofs.WalkLaws.{walk-holds}
 use Rattle.component.specs.Subbands.{subband_count}
-use Rattle.coefficients.specs.Reading.{RunOf, goes_on, going}
-use Rattle.coefficients.specs.declared.reading.Progress.{Progress}
-use Rattle.coefficients.specs.declared.reading.Progress.TheVariants.{At, Refused}
+use Rattle.coefficients.specs.Reading.{Progress, At, Refused, RunOf, goes_on, going}
 use Rattle.coefficients.proofs.ReadingLaws.{value-holds}
 use Rattle.slices.specs.Planes.{Planes, in_luma, in_first, in_second}
 use Rattle.slices.specs.Areas.{grid_of, luma_grid, chroma_grid, slice_area}

@@ -3,17 +3,17 @@
 use mathlib.Core.Path.{◌≡◌, refl, sym, ap, ◌∙◌}
 use mathlib.Core.List.{List}
 use Prim.Native.Nat.{ℕ, zero, suc, ◌+◌, ◌*◌, ◌/◌, ◌%◌, ◌≤◌, ◌<◌}
-use native.Mathlib.Nat.{zero-add, add-zero, zero-mul, mul-one, div-one, mul-le-mul, mul-le-mul_right, mul_assoc, suc-mul}
+use native.Mathlib.Nat.{zero-add, mul-one, div-one, mul-le-mul_right, suc-mul}
 use native.Mathlib.Omega.{arith}
 use lib.IntN.{ℤ, pos}
-use lib.ListN.{length, get_or}
+use lib.ListN.{get_or}
 use Rattle.base.specs.Fill.{fill}
 use Rattle.base.specs.Walk.{walk}
 use Rattle.base.proofs.WalkLaws.{walk_none, walk_more, walk_split, walk-next}
 use Rattle.coefficients.specs.declared.reading.Rectangle.{Rectangle}
 use Rattle.slices.specs.Planes.{Planes, planes_of, in_luma, in_first, in_second}
-use Rattle.slices.specs.Stores.{turns, put_in_row, stored_row, stored_rows, RowFits, RoomOfRow, Fits, Room}
-use Rattle.slices.specs.Reads.{row_of}
+use Rattle.slices.specs.Stores.{turns, put_in_row, stored_row, stored_rows, SameLengths, SamePlanes, RowFits, RoomOfRow, Room}
+use Rattle.slices.specs.declared.stores.ThreePlanes.{ThreePlanes}
 use Rattle.slices.specs.declared.parameters.Holder.{Holder}
 use Rattle.slices.specs.declared.parameters.Holder.TheVariants.{Luma, Both}
 
@@ -76,72 +76,23 @@ module _ (holder : Holder) (a : Rectangle) (run : List ℤ) (p : Planes) where
       sym (walk-next (λ y. stored_row holder (a.start + y * a.stride) a.width run (y * (a.width * turns holder))) y p sofar next (sym so) (sym step))
 
 -- a row of a rectangle has room
-pub row_room : (holder : Holder) (a : Rectangle) (luma first second run : List ℤ) → Room holder a luma first second run → (y : ℕ) → y < a.height →
-    RoomOfRow holder (a.start + y * a.stride) a.width (y * (a.width * turns holder)) luma first second run
-row_room holder a luma first second run room y below =
+pub row_room : (holder : Holder) (a : Rectangle) (p : Planes) (run : List ℤ) → Room holder a p run → (y : ℕ) → y < a.height →
+    RoomOfRow holder (a.start + y * a.stride) a.width (y * (a.width * turns holder)) p run
+row_room holder a p run room y below =
     let values = a.width * turns holder in
     let rows : suc y * values ≤ a.height * values = mul-le-mul_right values below in
     record { fits = room.fits.rows y below; there = omega (arith, room.there, suc-mul y values) }
 
--- what the room of a row says, by its holder
-module _ (holder : Holder) (index width from : ℕ) (luma first second run : List ℤ) where
-  pub luma-room : holder ≡ Luma → RoomOfRow holder index width from luma first second run → (index + width ≤ length luma) × (from + width ≤ length run)
-  luma-room e room =
-      let told : RoomOfRow Luma index width from luma first second run = rw e at room in
-      (told.fits, omega (arith, told.there))
-
-  pub both-room : holder ≡ Both → RoomOfRow holder index width from luma first second run →
-      (index + width ≤ length first) × (index + width ≤ length second) × (from + 2 * width ≤ length run)
-  both-room e room =
-      let told : RoomOfRow Both index width from luma first second run = rw e at room in
-      (told.fits.0, told.fits.1, omega (arith, told.there))
+-- planes that are the same as others that are the same as a third
+pub same_planes-then : (a b c : ThreePlanes) → SamePlanes a b → SamePlanes b c → SamePlanes a c
+same_planes-then a b c one next =
+    ((next.0.0 ∙ one.0.0, next.0.1 ∙ one.0.1, next.0.2 ∙ one.0.2), (next.1.0 ∙ one.1.0, next.1.1 ∙ one.1.1, next.1.2 ∙ one.1.2))
 
 -- planes of the same lengths have the same room
-module _ (luma first second luma' first' second' : List ℤ) (l : length luma' ≡ length luma) (f : length first' ≡ length first) (s : length second' ≡ length second) where
-  row-fits-same : (holder : Holder) (end : ℕ) → RowFits holder end luma first second → RowFits holder end luma' first' second'
-  row-fits-same Luma end fits = omega (arith, fits)
-  row-fits-same Both end fits = (omega (arith, fits.0), omega (arith, fits.1))
+module _ (p q : Planes) (same : SameLengths p q) where
+  row-fits-same : (holder : Holder) (end : ℕ) → RowFits holder end p → RowFits holder end q
+  row-fits-same Luma end fits = omega (arith, fits, same.0)
+  row-fits-same Both end fits = (omega (arith, fits.0, same.1), omega (arith, fits.1, same.2))
 
-  pub room-same : (holder : Holder) (index width from : ℕ) (run : List ℤ) → RoomOfRow holder index width from luma first second run → RoomOfRow holder index width from luma' first' second' run
+  pub room-same : (holder : Holder) (index width from : ℕ) (run : List ℤ) → RoomOfRow holder index width from p run → RoomOfRow holder index width from q run
   room-same holder index width from run room = record { fits = row-fits-same holder (index + width) room.fits; there = room.there }
-
-  pub fits-same : (holder : Holder) (a : Rectangle) → Fits holder a luma first second → Fits holder a luma' first' second'
-  fits-same holder a fits =
-      record { narrow = fits.narrow; tall = fits.tall; close = fits.close; rows = λ y below. row-fits-same holder (a.start + y * a.stride + a.width) (fits.rows y below) }
-
--- numbers that the code computes of a row are small
-pub row_small : (y stride : ℕ) → y ≤ 4096 → stride ≤ 4096 → y * stride ≤ 4096 * 4096
-row_small y stride low narrow = mul-le-mul low narrow
-
-pub row-few : (holder : Holder) (width : ℕ) → width ≤ 4096 → 1 * width * turns holder ≤ 8192
-row-few Luma width narrow = omega arith
-row-few Both width narrow = omega arith
-
-module _ (holder : Holder) (a : Rectangle) (luma first second : List ℤ) (fits : Fits holder a luma first second) (y : ℕ) (below : y < a.height) where
-  pub row_inside : a.start + y * a.stride ≤ length luma + length first
-  row_inside = by holder (fits.rows y below)
-    where
-      by : (h : Holder) → RowFits h (a.start + y * a.stride + a.width) luma first second → a.start + y * a.stride ≤ length luma + length first
-      by Luma row = omega (arith, row)
-      by Both row = omega (arith, row.0)
-
-  -- a row is a rectangle that fits
-  pub fits-row : Fits holder (row_of a y) luma first second
-  fits-row =
-      record {
-        narrow = fits.narrow;
-        tall = omega arith;
-        close = fits.close;
-        rows = λ k only.
-            let here : k * a.stride ≡ 0 = let none : k ≡ 0 = omega arith in rw none (zero-mul a.stride) in
-            rw (here, add-zero (a.start + y * a.stride)) (fits.rows y below);
-      }
-
-pub values-small : (holder : Holder) (a : Rectangle) (luma first second run : List ℤ) → Room holder a luma first second run → (y : ℕ) → y < a.height → y * (a.width * turns holder) ≤ length run
-values-small holder a luma first second run room y below = omega (arith, (row_room holder a luma first second run room y below).there)
-
--- a rectangle of few values has room for them in a long run
-pub room_of : (holder : Holder) (a : Rectangle) (luma first second run : List ℤ) → Fits holder a luma first second → a.height * a.width * turns holder ≤ 8192 → 8192 ≤ length run →
-    Room holder a luma first second run
-room_of holder a luma first second run fits few long =
-    record { fits = fits; there = omega (arith, mul_assoc a.height a.width (turns holder)) }

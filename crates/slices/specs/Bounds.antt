@@ -1,16 +1,14 @@
 -- The code's own forms: pictures that passed the checks, components whose slices the code can find, and tables of small values.
 -- No definition of the format rests on them.
-use Rattle.std.specs.Prelude.{ℕ, ◌*◌, ◌/◌, ◌%◌, ◌≤◌, ◌<◌, ◌≡◌, Bool, true, List, [], ℤ, length, get_or}
+use Rattle.std.specs.Prelude.{ℕ, ◌*◌, ◌≤◌, ◌<◌, ◌≡◌, Bool, true, List, [], ℤ, length, get_or}
 use Rattle.component.specs.Sizes.{padded_size}
 use Rattle.component.specs.Subbands.{subband_count}
-use Rattle.component.specs.Reciprocal.{reciprocal_of}
 use Rattle.coefficients.specs.Quantiser.{dequantise}
 use Rattle.coefficients.specs.Scaling.{scale_of, small_fit, Small}
-use Rattle.coefficients.specs.declared.quantiser.Quantiser.{Quantiser}
+use Rattle.coefficients.specs.declared.reading.Quantiser.{Quantiser}
 use Rattle.slices.specs.Areas.{luma_grid, chroma_grid, subband_index}
 use Rattle.slices.specs.declared.parameters.Picture.{Picture}
 use Rattle.slices.specs.declared.parameters.Grid.{Grid}
-use Rattle.slices.specs.declared.areas.Slice.{Slice}
 
 -- A picture that passed the checks of its sizes, depth and counts.
 pub record Checked (p : Picture) : Type 0 where
@@ -34,27 +32,17 @@ pub record Lengths (p : Picture) (luma first second : List ℤ) : Type 0 where
 pub record Indexed (p : Picture) (index : ℕ) : Type 0 where
   pub each : (k : ℕ) → k < subband_count p.depth → subband_index p index k ≤ 115
 
--- A component has padded sizes, and counts in range.
+-- A component has padded sizes, which padding leaves as they are, and counts in range.
 pub record Whole (g : Grid) : Type 0 where
   pub shallow : g.depth ≤ 4
-  pub unpadded_width : ℕ
-  pub unpadded_height : ℕ
-  pub width_padded : g.width ≡ padded_size g.depth unpadded_width
-  pub height_padded : g.height ≡ padded_size g.depth unpadded_height
+  pub width_padded : g.width ≡ padded_size g.depth g.width
+  pub height_padded : g.height ≡ padded_size g.depth g.height
   pub width_most : g.width ≤ 4096
   pub height_most : g.height ≤ 4096
   pub across_least : 1 ≤ g.across
   pub across_most : g.across ≤ 255
   pub down_least : 1 ≤ g.down
   pub down_most : g.down ≤ 255
-
--- A slice has its number's column and row.
-pub record Standing (s : Slice) : Type 0 where
-  pub counted : s.number < s.grid.across * s.grid.down
-  pub column : s.x ≡ s.number % s.grid.across
-  pub row : s.y ≡ s.number / s.grid.across
-  pub across_by : s.across_reciprocal ≡ reciprocal_of s.grid.across
-  pub down_by : s.down_reciprocal ≡ reciprocal_of s.grid.down
 
 -- A table has the small values of every index below n, in a picture that is intra or not.
 pub record KnowsSmall (intra : Bool) (n : ℕ) (table : List (List ℤ)) : Type 0 where

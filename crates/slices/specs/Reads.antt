@@ -1,8 +1,7 @@
 -- The code's own forms: the run that values go through, and what reading left. No definition of the format rests on them.
-use Rattle.std.specs.Prelude.{ℕ, ◌+◌, ◌*◌, ◌≤◌, ◌≡◌, List, ℤ, pos, length, get_or}
-use Rattle.coefficients.specs.Reading.{RunOf}
-use Rattle.coefficients.specs.declared.reading.Progress.{Progress}
-use Rattle.coefficients.specs.declared.reading.Progress.TheVariants.{At}
+use Rattle.std.specs.Prelude.{ℕ, ◌+◌, ◌*◌, ◌≤◌, ◌≡◌, Result, Ok, List, ℤ, pos, length, get_or}
+use Rattle.base.specs.declared.status.Fault.{Fault}
+use Rattle.coefficients.specs.Reading.{RunOf, progress_of}
 use Rattle.coefficients.specs.declared.reading.Rectangle.{Rectangle}
 use Rattle.runs.specs.declared.Span.{Span}
 use Rattle.slices.specs.Planes.{Planes}
@@ -23,8 +22,8 @@ pub record Blank (run : List ℤ) : Type 0 where
 
 -- What reading left is what a definition says: how far it came; and where it goes on, which is no later than the end of the data, the planes.
 -- The run then holds zeros.
-pub record Left (end : ℕ) (progress : Progress) (planes : Planes) (run : List ℤ) (r : RunOf Planes) : Type 0 where
-  pub progress_is : progress ≡ r.progress
-  pub planes_are : (bit : ℕ) → progress ≡ At bit → planes ≡ r.plane
-  pub before_end : (bit : ℕ) → progress ≡ At bit → bit ≤ end
-  pub run_blank : (bit : ℕ) → progress ≡ At bit → Blank run
+pub record Left (end : ℕ) (result : Result ℕ Fault) (planes : Planes) (run : List ℤ) (r : RunOf Planes) : Type 0 where
+  pub progress_is : progress_of result ≡ r.progress
+  pub planes_are : (bit : ℕ) → result ≡ Ok bit → planes ≡ r.plane
+  pub before_end : (bit : ℕ) → result ≡ Ok bit → bit ≤ end
+  pub run_blank : (bit : ℕ) → result ≡ Ok bit → Blank run

@@ -1,8 +1,9 @@
 // Document 02, request Four: the rectangles of a slice, and the quantiser index of each of its subbands.
-ghost use Rattle.std.specs.Prelude.{◌≡◌, ◌*◌, ◌≤◌, ◌<◌};
+ghost use Rattle.std.specs.Prelude.{◌≡◌, ◌*◌, ◌/◌, ◌%◌, ◌≤◌, ◌<◌};
+ghost use Rattle.component.specs.Reciprocal.{reciprocal_of};
 ghost use Rattle.component.specs.Subbands.{subband_count};
 ghost use Rattle.slices.specs.Areas.{grid_of, slice_area, subband_index, indices_fit};
-ghost use Rattle.slices.specs.Bounds.{Checked, Whole, Standing};
+ghost use Rattle.slices.specs.Bounds.{Checked, Whole};
 
 use crate::parameters::{Grid, Picture};
 use base::limits::QUANTISER_MOST;
@@ -20,6 +21,12 @@ pub struct Slice {
     pub y: usize,
     pub across_reciprocal: usize,
     pub down_reciprocal: usize,
+    pub ghost whole: { Whole grid },
+    pub ghost counted: { number < grid.across * grid.down },
+    pub ghost column: { x ≡ number % grid.across },
+    pub ghost row: { y ≡ number / grid.across },
+    pub ghost across_by: { across_reciprocal ≡ reciprocal_of grid.across },
+    pub ghost down_by: { down_reciprocal ≡ reciprocal_of grid.down },
 }
 
 // The plane of a component of a width and height.
@@ -37,47 +44,49 @@ pub fn grid_of(p: Picture, width: u32, height: u32) -> Grid
     }
 }
 
-// Slice s of a component.
-pub fn slice_of(grid: Grid, s: usize) -> Slice
-    requires { Whole grid × (s < grid.across * grid.down) }
-    ensures { (result.grid ≡ grid) × (result.number ≡ s) × Standing result }
-{
-    Slice {
-        grid,
-        number: s,
-        x: s % grid.across,
-        y: s / grid.across,
-        across_reciprocal: reciprocal_of(grid.across),
-        down_reciprocal: reciprocal_of(grid.down),
+impl Slice {
+    // Slice s of a component.
+    pub fn new(grid: Grid, s: usize) -> Slice
+        requires { Whole grid × (s < grid.across * grid.down) }
+        ensures { (result.grid ≡ grid) × (result.number ≡ s) }
+    {
+        Slice {
+            grid,
+            number: s,
+            x: s % grid.across,
+            y: s / grid.across,
+            across_reciprocal: reciprocal_of(grid.across),
+            down_reciprocal: reciprocal_of(grid.down),
+        }
+    }
+
+    // The rectangle that the slice has of subband k.
+    pub fn area_at(self, k: usize) -> Rectangle
+        requires { k < subband_count self.grid.depth }
+        ensures { result ≡ slice_area self.grid self.number k }
+    {
+        let g = self.grid;
+        let b = subband_at(g.depth, g.width, g.height, k);
+        let left = part_start_by(b.width, self.across_reciprocal, self.x);
+        let right = part_start_by(b.width, self.across_reciprocal, self.x + 1);
+        let top = part_start_by(b.height, self.down_reciprocal, self.y);
+        let bottom = part_start_by(b.height, self.down_reciprocal, self.y + 1);
+        Rectangle {
+            start: (b.top + top) * g.width + (b.left + left),
+            stride: g.width,
+            width: right - left,
+            height: bottom - top,
+        }
     }
 }
 
-// The rectangle that a slice has of subband k.
-pub fn area_at(slice: Slice, k: usize) -> Rectangle
-    requires { Whole slice.grid × Standing slice × (k < subband_count slice.grid.depth) }
-    ensures { result ≡ slice_area slice.grid slice.number k }
-{
-    let g = slice.grid;
-    let b = subband_at(g.depth, g.width, g.height, k);
-    let left = part_start_by(b.width, slice.across_reciprocal, slice.x);
-    let right = part_start_by(b.width, slice.across_reciprocal, slice.x + 1);
-    let top = part_start_by(b.height, slice.down_reciprocal, slice.y);
-    let bottom = part_start_by(b.height, slice.down_reciprocal, slice.y + 1);
-    Rectangle {
-        start: (b.top + top) * g.width + (b.left + left),
-        stride: g.width,
-        width: right - left,
-        height: bottom - top,
-    }
-}
-
-// The quantiser index of subband k, where the slice has an index.
-pub fn subband_index(p: Picture, index: u32, k: usize) -> u32
+// The quantiser index of subband k, where the slice has an index. The picture is not copied for a matrix entry of each rectangle.
+#[tactic(auto, unfolding(crate::specs::Areas::subband_index))]
+pub fn subband_index(p: &Picture, index: u32, k: usize) -> u32
     requires { k < 13 }
-    ensures { result ≡ subband_index p index k }
+    ensures { result ≡ subband_index p.now index k }
 {
-    let entry = p.matrix[k];
-    if entry < index { index - entry } else { 0 }
+    index.saturating_sub(p.matrix[k])
 }
 
 // Whether the index of every subband is in range.
@@ -86,12 +95,5 @@ pub fn indices_fit(p: Picture, index: u32) -> bool
     ensures { result ≡ indices_fit p index }
 {
     let count = subband_count(p.depth as usize);
-    let mut k = 0;
-    while k < count {
-        if QUANTISER_MOST < subband_index(p, index, k) {
-            return false;
-        }
-        k += 1;
-    }
-    true
+    (0..count).all(|k| subband_index(&p, index, k) <= QUANTISER_MOST)
 }

@@ -1,6 +1,9 @@
 // Document 02, request Four: the parameters of a picture in slices.
+ghost use Rattle.std.specs.Prelude.{◌≡◌, ◌*◌, ◌≤◌};
+ghost use Rattle.slices.specs.Stores.{turns};
 
-// What every kind of slices takes. Any value can be passed; a job refuses what is out of range.
+// What every kind of slices takes. Any value can be passed; a job refuses what is out of range. C passes such a value, and definitions are about
+// it, so what a job has found (`Checked`) is said by the types that hold a picture after that (SlicePart), and by contracts where there is none yet.
 #[derive(Clone, Copy)]
 pub struct Picture {
     pub luma_width: u32,
@@ -15,7 +18,8 @@ pub struct Picture {
     pub matrix: [u32; 13],
 }
 
-// The plane of a component, by its padded sizes, and the counts of the slices that divide it.
+// The plane of a component, by its padded sizes, and the counts of the slices that divide it. The definition `grid_of` makes one of any numbers, so
+// that they are in range (`Whole`) stands in contracts and not in the type.
 #[derive(Clone, Copy)]
 pub struct Grid {
     pub depth: usize,
@@ -30,4 +34,17 @@ pub struct Grid {
 pub enum Holder {
     Luma,
     Both,
+}
+
+impl Holder {
+    // How many values a part has for so many entries.
+    pub fn values_of(self, entries: usize) -> usize
+        requires { entries ≤ 16777216 }
+        ensures { result ≡ entries * turns self }
+    {
+        match self {
+            Holder::Luma => entries,
+            Holder::Both => 2 * entries,
+        }
+    }
 }

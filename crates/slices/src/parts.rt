@@ -1,31 +1,29 @@
 // Document 02, request Four: the values of a part of a slice, read into three planes.
 ghost use Rattle.std.specs.Prelude.{◌≡◌, ◌+◌, ◌*◌, ◌≤◌, ◌<◌, ◌^◌};
-ghost use Rattle.lookups.specs.Lookups.{KnowsCodes};
-ghost use Rattle.coefficients.specs.Factors.{KnowsFactors};
 ghost use Rattle.coefficients.specs.Reading.{goes_on};
 ghost use Rattle.coefficients.specs.Scaling.{scale_of};
-ghost use Rattle.coefficients.specs.Values.{Decoding};
 ghost use Rattle.runs.specs.Runs.{SoundSpan};
-ghost use Rattle.slices.specs.Planes.{planes_of};
 ghost use Rattle.slices.specs.Areas.{slice_count};
 ghost use Rattle.slices.specs.Parts.{grid_for, area_values, part_values};
-ghost use Rattle.slices.specs.Bounds.{Checked, Lengths, Indexed, Whole, KnowsSmall};
-ghost use Rattle.slices.specs.Stores.{turns, Fits};
+ghost use Rattle.slices.specs.Bounds.{Checked, Lengths, Indexed, Whole};
+ghost use Rattle.slices.specs.Stores.{turns, Fits, planes_behind, SamePlanes};
 ghost use Rattle.slices.specs.Reads.{Blank, data_of, row_of, Left};
 
-use crate::areas::{area_at, grid_of, slice_of, subband_index};
+use crate::areas::{Slice, grid_of, subband_index};
 use crate::parameters::{Grid, Holder, Picture};
-use crate::stores::{store_rows, values_of};
+use crate::stores::ThreePlanes;
+use crate::tables::Tables;
 use base::plane::zero_part;
-use coefficients::quantiser::{Quantiser, quantiser_by};
-use coefficients::reading::{Progress, Rectangle};
+use base::status::Fault;
+use coefficients::reading::Rectangle;
+use coefficients::values::Decoder;
 use component::subbands::subband_count;
 use runs::{Span, read_run};
 
 // How many values are read before they are put where they belong: a row of two planes, or more rows.
 const RUN: usize = 8192;
 
-// A part of slice number `slice`: whose values it has, the slice's quantiser index, and where its data stand.
+// A part of slice number `slice` of a picture that passed the checks: whose values it has, the slice's quantiser index, and where its data stand.
 #[derive(Clone, Copy)]
 pub struct SlicePart {
     pub picture: Picture,
@@ -33,121 +31,92 @@ pub struct SlicePart {
     pub holder: Holder,
     pub index: u32,
     pub span: Span,
+    pub ghost checked: { Checked picture },
+    pub ghost counted: { slice < slice_count picture },
+    pub ghost indexed: { Indexed picture index },
+    pub ghost sound: { SoundSpan span },
 }
 
-// A rectangle of a part: whose values it has, where they go, where its data stand, and what they are dequantised by.
+impl SlicePart {
+    // The plane, or each of two, that its values go to.
+    fn own_grid(self) -> Grid
+        ensures { (result ≡ grid_for self.picture self.holder) × Whole result }
+    {
+        let p = self.picture;
+        match self.holder {
+            Holder::Luma => grid_of(p, p.luma_width, p.luma_height),
+            Holder::Both => grid_of(p, p.chroma_width, p.chroma_height),
+        }
+    }
+}
+
+// A rectangle of a part: whose values it has, where they go, where its data stand, and what they are decoded by.
 #[derive(Clone, Copy)]
-pub struct Piece {
+pub struct Piece<'a> {
     pub holder: Holder,
     pub area: Rectangle,
     pub span: Span,
-    pub q: Quantiser,
+    pub decoder: Decoder<'a>,
 }
 
 // Reads the values of a part: all, or up to one that is refused. They go through a run of zeros, which holds zeros again after the last. After a
 // refusal the planes and the run are free; a job zeroes its planes then. So it is of the functions below.
+// `Lengths` and `Blank` stay clauses, here and in low_delay: they are of planes and of a run that change, and a struct that said them would have to
+// lend these on at each call; nor does a run hold zeros after a refusal.
 pub fn read_part(
-    luma: &mut [i32],
-    first: &mut [i32],
-    second: &mut [i32],
+    planes: &mut ThreePlanes<'_>,
     part: SlicePart,
     bytes: &[u8],
     run: &mut [i32],
-    table: &[u16; 256],
-    small: &[[i32; 32]; 116],
-    factors: &[u32; 116],
-) -> Progress
-    requires sound { Checked part.picture × (part.slice < slice_count part.picture) × Indexed part.picture part.index × SoundSpan part.span }
-    requires planes { Lengths part.picture luma.old first.old second.old × Blank run.old }
-    requires tables { KnowsCodes table.now × KnowsSmall part.picture.intra 116 small.now × KnowsFactors factors.now }
-    ensures { Left part.span.end result (planes_of luma.new first.new second.new) run.new
+    tables: Tables<'_>,
+) -> Result<usize, Fault>
+    requires planes { Lengths part.picture planes.old.luma.now planes.old.first.now planes.old.second.now × Blank run.old }
+    requires tables { tables.intra ≡ part.picture.intra }
+    ensures same { SamePlanes planes.old planes.new }
+    ensures read { Left part.span.end result (planes_behind planes.new) run.new
         (part_values part.picture part.slice part.index (data_of bytes.now part.span) part.holder
-        (goes_on part.span.bit (planes_of luma.old first.old second.old))) }
+        (goes_on part.span.bit (planes_behind planes.old))) }
 {
     let p = part.picture;
     let holder = part.holder;
-    let slice = slice_of(grid_for(p, holder), part.slice);
+    let slice = Slice::new(part.own_grid(), part.slice);
     let count = subband_count(p.depth as usize);
     let mut span = part.span;
-    let mut k = 0;
-    while k < count {
-        let index = subband_index(p, part.index, k);
+    for k in 0..count {
         let piece = Piece {
             holder,
-            area: area_at(slice, k),
+            area: slice.area_at(k),
             span,
-            q: quantiser_by(factors, p.intra, index),
+            decoder: tables.decoder(subband_index(&p, part.index, k)),
         };
-        let progress = read_area(
-            luma,
-            first,
-            second,
-            piece,
-            bytes,
-            run,
-            table,
-            &small[index as usize],
-        );
-        let Progress::At { bit } = progress else {
-            return progress;
-        };
-        span.bit = bit;
-        k += 1;
+        span.bit = read_area(planes, piece, bytes, run)?;
     }
-    Progress::At { bit: span.bit }
-}
-
-// The plane, or each of two, that a part's values go to.
-fn grid_for(p: Picture, holder: Holder) -> Grid
-    requires { Checked p }
-    ensures { (result ≡ grid_for p holder) × Whole result }
-{
-    match holder {
-        Holder::Luma => grid_of(p, p.luma_width, p.luma_height),
-        Holder::Both => grid_of(p, p.chroma_width, p.chroma_height),
-    }
+    Ok(span.bit)
 }
 
 // Reads the values of a rectangle, all rows at once where the run has room for them.
 fn read_area(
-    luma: &mut [i32],
-    first: &mut [i32],
-    second: &mut [i32],
-    piece: Piece,
+    planes: &mut ThreePlanes<'_>,
+    piece: Piece<'_>,
     bytes: &[u8],
     run: &mut [i32],
-    table: &[u16; 256],
-    small: &[i32; 32],
-) -> Progress
-    requires { Fits piece.holder piece.area luma.old first.old second.old × SoundSpan piece.span × Blank run.old
-        × Decoding piece.q table.now small.now }
-    ensures { Left piece.span.end result (planes_of luma.new first.new second.new) run.new
-        (area_values (data_of bytes.now piece.span) (scale_of piece.q) piece.holder piece.area
-        (goes_on piece.span.bit (planes_of luma.old first.old second.old))) }
+) -> Result<usize, Fault>
+    requires { Fits piece.holder piece.area (planes_behind planes.old) × SoundSpan piece.span × Blank run.old }
+    ensures same { SamePlanes planes.old planes.new }
+    ensures read { Left piece.entry.span.end result (planes_behind planes.new) run.new
+        (area_values (data_of bytes.now piece.entry.span) (scale_of piece.entry.decoder.q) piece.entry.holder piece.entry.area
+        (goes_on piece.entry.span.bit (planes_behind planes.old))) }
 {
-    let holder = piece.holder;
     let area = piece.area;
-    if values_of(holder, area.height * area.width) <= RUN {
-        return read_rows(luma, first, second, piece, bytes, run, table, small);
+    if piece.holder.values_of(area.height * area.width) <= RUN {
+        return read_rows(planes, piece, bytes, run);
     }
-    let q = piece.q;
-    let mut span = piece.span;
-    let mut y = 0;
-    while y < area.height {
-        let row = Piece {
-            holder,
-            area: row_of(area, y),
-            span,
-            q,
-        };
-        let progress = read_rows(luma, first, second, row, bytes, run, table, small);
-        let Progress::At { bit } = progress else {
-            return progress;
-        };
-        span.bit = bit;
-        y += 1;
+    let mut row = piece;
+    for y in 0..area.height {
+        row.area = row_of(area, y);
+        row.span.bit = read_rows(planes, row, bytes, run)?;
     }
-    Progress::At { bit: span.bit }
+    Ok(row.span.bit)
 }
 
 // Row y of a rectangle.
@@ -157,38 +126,30 @@ fn row_of(area: Rectangle, y: usize) -> Rectangle
 {
     Rectangle {
         start: area.start + y * area.stride,
-        stride: area.stride,
-        width: area.width,
         height: 1,
+        ..area
     }
 }
 
 // Reads the values of a rectangle that the run has room for.
 fn read_rows(
-    luma: &mut [i32],
-    first: &mut [i32],
-    second: &mut [i32],
-    piece: Piece,
+    planes: &mut ThreePlanes<'_>,
+    piece: Piece<'_>,
     bytes: &[u8],
     run: &mut [i32],
-    table: &[u16; 256],
-    small: &[i32; 32],
-) -> Progress
-    requires fits { Fits piece.holder piece.area luma.old first.old second.old
+) -> Result<usize, Fault>
+    requires fits { Fits piece.holder piece.area (planes_behind planes.old)
         × (piece.area.height * piece.area.width * turns piece.holder ≤ 8192) }
-    requires reads { SoundSpan piece.span × Blank run.old × Decoding piece.q table.now small.now }
-    ensures { Left piece.span.end result (planes_of luma.new first.new second.new) run.new
-        (area_values (data_of bytes.now piece.span) (scale_of piece.q) piece.holder piece.area
-        (goes_on piece.span.bit (planes_of luma.old first.old second.old))) }
+    requires reads { SoundSpan piece.span × Blank run.old }
+    ensures same { SamePlanes planes.old planes.new }
+    ensures read { Left piece.entry.span.end result (planes_behind planes.new) run.new
+        (area_values (data_of bytes.now piece.entry.span) (scale_of piece.entry.decoder.q) piece.entry.holder piece.entry.area
+        (goes_on piece.entry.span.bit (planes_behind planes.old))) }
 {
-    let holder = piece.holder;
     let area = piece.area;
-    let n = values_of(holder, area.height * area.width);
-    let progress = read_run(run, n, bytes, piece.span, piece.q, table, small);
-    let Progress::At { bit: _ } = progress else {
-        return progress;
-    };
-    store_rows(luma, first, second, holder, area, run);
+    let n = piece.holder.values_of(area.height * area.width);
+    let bit = read_run(run, n, bytes, piece.span, piece.decoder)?;
+    planes.store_rows(piece.holder, area, run);
     zero_part(run, 0, n);
-    progress
+    Ok(bit)
 }

@@ -26,7 +26,7 @@ use Rattle.sweep.specs.Pairs.{EachPair, FramePut}
 use Rattle.sweep.specs.Stages.{lag_of, came_to, Swept, last_of, reach_in}
 use Rattle.sweep.specs.Turns.{Bounded}
 use Rattle.sweep.specs.Rows.{row_made, pair_fits, with_row, halved_of, by_columns, by_rows}
-use Rattle.sweep.specs.LastStage.{rows_left, rows_lag, pair_left, samples_left, SamplesPut, picture_left}
+use Rattle.sweep.specs.LastStage.{finishes, crop_of, rows_left, rows_lag, pair_left, samples_left, SamplesPut, picture_left}
 use Rattle.sweep.proofs.StagesLaws.{due-from, lag-last, stages_of, stage-after, stage-left, after-all, lag-grows, reach-had, reach-not}
 use Rattle.sweep.proofs.TurnsLaws.{stage-swept, stage-bounded}
 use Rattle.filters.proofs.PicturesLaws.{even-target, odd-target, other-even, other-odd}
@@ -43,8 +43,8 @@ pair_test level filter S k = row_test level filter S (2 * k) && row_test level f
 -- The rows of the pairs that the last stage has come to stand in the samples.
 abbrev pub Finished : Level → LiftingFilter → Picture → ℕ → List ℤ → Type 0
 Finished level filter S come samples =
-    (k : ℕ) (even : Bool) (x : ℕ) → k < come → target_row even k < level.crop.height → x < level.crop.width
-    → get_or samples (target_row even k * level.crop.width + x) (pos 0)
+    (k : ℕ) (even : Bool) (x : ℕ) → k < come → target_row even k < (crop_of level).height → x < (crop_of level).width
+    → get_or samples (target_row even k * (crop_of level).width + x) (pos 0)
     ≡ by_rows level.frame filter (by_columns level.frame filter S) (target_row even k) x
 
 -- Pair k of a plane, once the rows of some pairs before it are filtered.
@@ -73,23 +73,23 @@ module _
         record {
           new = λ q even x start end shown within.
               let here : q ≡ k = omega arith in
-              rw (here, stored) (pair-new f work placed k inside (rows_left level filter work) even x within ∙ left even x within level.finishes refl);
+              rw (here, stored) (pair-new f work placed k inside (rows_left level filter work) even x within ∙ left even x within (finishes level) refl);
           kept = λ q even x out within.
               rw stored (pair-others f work placed k inside (rows_left level filter work) q even (λ e. out (omega (arith, e)) (omega (arith, e))) x within);
         }
       where
         left :
-            (even : Bool) (x : ℕ) → x < 2 * f.band_columns → (finishes : Bool) → level.finishes ≡ finishes
+            (even : Bool) (x : ℕ) → x < 2 * f.band_columns → (finished : Bool) → finishes level ≡ finished
             → rows_left level filter work (target_row even k) x ≡ rows_left level filter plane (target_row even k) x
         left even x within true e = rw e
         left even x within false e = rw e (made_kept even x within)
 
     pub samples-put :
-        level.finishes ≡ true → level.crop.width ≤ 2 * f.band_columns → (samples samples' : List ℤ) → level.crop.height * level.crop.width ≤ length samples
-        → samples' ≡ samples_left level filter k work samples → SamplesPut level.crop k (suc k) (row_made f filter plane) samples samples'
+        finishes level ≡ true → (crop_of level).width ≤ 2 * f.band_columns → (samples samples' : List ℤ) → (crop_of level).height * (crop_of level).width ≤ length samples
+        → samples' ≡ samples_left level filter k work samples → SamplesPut (crop_of level) k (suc k) (row_made f filter plane) samples samples'
     unfolding picture_of
     samples-put finishes narrow samples samples' room stored =
-        let c : Crop = level.crop in
+        let c : Crop = crop_of level in
         let P : Picture = row_made f filter work in
         let one = with_row c (2 * k) (P (2 * k)) samples in
         let both : samples' ≡ with_row c (2 * k + 1) (P (2 * k + 1)) one = rw finishes at stored in
@@ -156,9 +156,9 @@ module _ (level : Level) (filter : LiftingFilter) (formed : WellFormed filter) (
 
     -- what is left of them
     left_here : (k : ℕ) (even : Bool) → from ≤ k → k < to → (x : ℕ) → x < w → rows_left level filter plane (target_row even k) x ≡ pictures (last_of filter) (target_row even k) x
-    left_here k even start end x within = by level.finishes refl ∙ ap (λ (P : Picture). P (target_row even k) x) (sym (stage-left level.frame filter Q S (picture_left level filter S)))
+    left_here k even start end x within = by (finishes level) refl ∙ ap (λ (P : Picture). P (target_row even k) x) (sym (stage-left level.frame filter Q S (picture_left level filter S)))
       where
-        by : (finishes : Bool) → level.finishes ≡ finishes → rows_left level filter plane (target_row even k) x ≡ picture_left level filter S (target_row even k) x
+        by : (finished : Bool) → finishes level ≡ finished → rows_left level filter plane (target_row even k) x ≡ picture_left level filter S (target_row even k) x
         by true e = rw e
         by false e = rw e (made-here k even start end x within)
 
@@ -183,7 +183,7 @@ module _ (level : Level) (filter : LiftingFilter) (formed : WellFormed filter) (
 
     -- the samples
     pub finished-more :
-        (samples samples' : List ℤ) → SamplesPut level.crop from to (row_made level.frame filter plane) samples samples' → level.crop.width ≤ w
+        (samples samples' : List ℤ) → SamplesPut (crop_of level) from to (row_made level.frame filter plane) samples samples' → (crop_of level).width ≤ w
         → Finished level filter S from samples → Finished level filter S to samples'
     unfolding picture_of
     finished-more samples samples' put narrow sofar k even x below inside within =

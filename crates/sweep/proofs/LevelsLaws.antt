@@ -22,7 +22,7 @@ use Rattle.sweep.specs.declared.level.Level.{Level}
 use Rattle.sweep.specs.Pairs.{EachPair, FramePut}
 use Rattle.sweep.specs.Stages.{At, Swept, came_to, last_of, reach_in}
 use Rattle.sweep.specs.Turns.{Bounded, step_fits, TurnFits}
-use Rattle.sweep.specs.LastStage.{rows_left, rows_lag, SamplesPut, picture_left}
+use Rattle.sweep.specs.LastStage.{finishes, crop_of, rows_left, rows_lag, SamplesPut, picture_left}
 use Rattle.sweep.specs.Levels.{RoomFor}
 use Rattle.sweep.specs.Rows.{row_made, pair_fits, halved_of, by_columns, by_rows, both_fit}
 use Rattle.sweep.proofs.LastStageLaws.{pair_test, Finished, rows_told, swept-rows, bounded-rows, finished-more, pairs_fit, pair_fits-told}
@@ -45,7 +45,7 @@ module _ (level : Level) (filter : LiftingFilter) (padded : ℕ) (work₀ coeffi
   pub record Progress (most turn : ℕ) (work samples : List ℤ) : Type 0 where
     pub bounded : Bounded f level.gap (reach_in f filter turn 0) filter (suc most) work
     pub swept : Swept f level.gap (reach_in f filter turn 0) level_pictures work
-    pub finished : level.finishes ≡ true → Finished level filter input (came_to f.band_rows (rows_lag level filter) turn) samples
+    pub finished : finishes level ≡ true → Finished level filter input (came_to f.band_rows (rows_lag level filter) turn) samples
     pub columns-fit : (i : ℕ) → i < filter.count → EachPair 0 (came_to f.band_rows ((i + 1) * level.gap) turn) (step_fits f filter level_pictures i)
     pub rows_fit : EachPair 0 (came_to f.band_rows (rows_lag level filter) turn) (pair_test level filter input)
 
@@ -115,11 +115,11 @@ module _ (level : Level) (filter : LiftingFilter) (padded : ℕ) (work₀ coeffi
           ∙ ap (λ (P : Picture). P (target_row even k) x) (stage-left f filter (frame_picture f work₀) input (picture_left level filter input)))
 
       pub level-finished :
-          level.finishes ≡ true → level.crop.height ≤ 2 * f.band_rows
-          → Agree level.crop.height level.crop.width (picture_of level.crop.width samples) (by_rows f filter (by_columns f filter input))
+          finishes level ≡ true → (crop_of level).height ≤ 2 * f.band_rows
+          → Agree (crop_of level).height (crop_of level).width (picture_of (crop_of level).width samples) (by_rows f filter (by_columns f filter input))
       unfolding picture_of
       level-finished finishes short row x below within =
-          by-pairs (λ r. get_or samples (r * level.crop.width + x) (pos 0) ≡ by_rows f filter (by_columns f filter input) r x) row
+          by-pairs (λ r. get_or samples (r * (crop_of level).width + x) (pos 0) ≡ by_rows f filter (by_columns f filter input) r x) row
           (λ k even same. all.finished finishes k even x (omega (arith, pair-below even k row f.band_rows same (omega arith))) (rw same below) within)
 
     -- A turn.
@@ -155,7 +155,7 @@ module _ (level : Level) (filter : LiftingFilter) (padded : ℕ) (work₀ coeffi
             Bounded f level.gap (reach_in f filter turn (suc filter.count)) filter (suc most') lifted
             → TurnFits f filter level.gap turn level_pictures → EachPair from to (pair_fits f filter lifted) → RoomFor level samples
             → (work' samples' : List ℤ) → FramePut f from to (rows_left level filter lifted) lifted work'
-            → (level.finishes ≡ true → SamplesPut level.crop from to (row_made f filter lifted) samples samples')
+            → (finishes level ≡ true → SamplesPut (crop_of level) from to (row_made f filter lifted) samples samples')
             → Progress most' (turn + 8) work' samples'
         progress-more bounded steps-fit pairs_fit room work' samples' kept put =
             record {

@@ -1,13 +1,14 @@
 -- Pairs of rows changed one after the other: those from one on to another, and those from there on, are all those from the first on.
 -- Assumes nothing.
-use mathlib.Core.Path.{refl, ◌∙◌}
+use mathlib.Core.Path.{◌≡◌, refl, ◌∙◌}
+use mathlib.Core.Bool.{Bool, true}
 use mathlib.Core.List.{List}
-use Prim.Native.Nat.{ℕ, ◌≤◌}
+use Prim.Native.Nat.{ℕ, suc, ◌≤◌}
 use native.Mathlib.Decide.{dec_lt}
 use native.Mathlib.Omega.{arith}
 use lib.IntN.{ℤ}
 use Rattle.filters.specs.Passes.{Picture}
-use Rattle.sweep.specs.Pairs.{PairsPut}
+use Rattle.sweep.specs.Pairs.{EachPair, PairsPut}
 
 module _ (stride height width : ℕ) (P : Picture) where
   pub pairs-none : (k : ℕ) (plane : List ℤ) → PairsPut stride height width k k P plane plane
@@ -26,3 +27,11 @@ module _ (stride height width : ℕ) (P : Picture) where
         kept = λ q even x out within.
             second.kept q even x (λ from to. out (omega arith) to) within ∙ first.kept q even x (λ from to. out from (omega arith)) within;
       }
+
+-- a test that passes at pairs and at the next one
+pub each-more : (from k : ℕ) (test : ℕ → Bool) → EachPair from k test → test k ≡ true → EachPair from (suc k) test
+each-more from k test before here q first end =
+    elim (dec_lt q k) [
+      | yes earlier ↦ before q first earlier
+      | no last ↦ let same : q ≡ k = omega arith in rw same here
+    ]

@@ -95,10 +95,6 @@ module _
     pub second-row : (x : ℕ) → x < 2 * f.band_columns → row_made f filter work₁ (2 * k + 1) x ≡ row_made f filter plane (2 * k + 1) x
     second-row x within = rw stored (second-made f filter plane placed k (P (2 * k)) x within)
 
--- a pair whose first row does not fit does not
-pub pair-fails : (f : Frame) (filter : LiftingFilter) (plane : List ℤ) (k : ℕ) → row_fits f filter plane (2 * k) ≡ false → false ≡ pair_fits f filter plane k
-pair-fails f filter plane k e = rw e
-
 -- a plane with both rows of a pair stored
 module _ (f : Frame) (plane : List ℤ) (placed : FrameFits f plane) (k : ℕ) (inside : k < f.band_rows) (P : Picture) where
   abbrev first_stored : List ℤ

@@ -5,15 +5,15 @@ use Rattle.filters.specs.declared.filter.LiftingFilter.{LiftingFilter}
 use Rattle.sweep.specs.Bands.{band_rows}
 use Rattle.sweep.specs.declared.level.Level.{Level}
 use Rattle.sweep.specs.Rows.{by_columns, by_rows, both_fit}
-use Rattle.sweep.specs.LastStage.{picture_left}
+use Rattle.sweep.specs.LastStage.{finishes, crop_of, picture_left}
 
 -- Where the samples are made, they have room for what is kept.
 abbrev pub RoomFor : Level → List ℤ → Type 0
 RoomFor level samples =
-    level.finishes ≡ true
-    → (level.crop.width ≤ 2 * level.frame.band_columns)
-    × (level.crop.height ≤ 2 * level.frame.band_rows)
-    × (level.crop.height * level.crop.width ≤ length samples)
+    finishes level ≡ true
+    → ((crop_of level).width ≤ 2 * level.frame.band_columns)
+    × ((crop_of level).height ≤ 2 * level.frame.band_rows)
+    × ((crop_of level).height * (crop_of level).width ≤ length samples)
 
 -- The picture that a level starts from, as it stands in a frame of the work plane once its bands are interleaved; whether all new numbers fit, the
 -- picture that the filter makes of it, and what is left in the plane.

@@ -11,10 +11,7 @@ use Rattle.lifting.specs.declared.frame.Frame.{Frame}
 use Rattle.filters.specs.declared.filter.LiftingFilter.{LiftingFilter}
 use Rattle.sweep.specs.declared.rows.Crop.{Crop}
 
--- A pair of rows of a frame, or a row, that lies in a plane.
-abbrev pub PairInside : Frame → ℕ → List ℤ → Type 0
-PairInside f k plane = FrameFits f plane × (k < f.band_rows)
-
+-- A row of a frame that lies in a plane.
 abbrev pub RowInside : Frame → ℕ → List ℤ → Type 0
 RowInside f row plane = FrameFits f plane × (row < 2 * f.band_rows)
 

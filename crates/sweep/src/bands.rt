@@ -21,12 +21,10 @@ pub fn interleave_pairs(
     ensures stored { FramePut frame from to (band_rows frame padded_width work.old coefficients.now) work.old work.new }
     ensures measured { (k : ℕ) → from ≤ k → k < to → PairWithin frame k (suc result) work.new }
 {
-    let mut most = 0u32;
-    let mut r = from;
-    while r < to {
+    let mut most = 0;
+    for r in from..to {
         let here = interleave_pair(work, coefficients, padded_width, frame, r);
         most = join(most, here);
-        r += 1;
     }
     most
 }

@@ -1,5 +1,5 @@
 // How far apart the stages of a sweep are.
-ghost use Rattle.std.specs.Prelude.{◌≡◌, ◌+◌, ◌-◌, ◌≤◌, max};
+ghost use Rattle.std.specs.Prelude.{◌+◌, ◌≤◌};
 ghost use Rattle.filters.specs.Table.{WellFormedStep, WellFormed};
 ghost use Rattle.sweep.specs.Stages.{Spaced};
 
@@ -11,11 +11,8 @@ pub fn gap_of(filter: LiftingFilter) -> usize
     ensures { Spaced filter result × (result ≤ 4) }
 {
     let mut gap = 0;
-    let mut i = 0;
-    while i < filter.count {
-        let step = filter.steps[i];
-        gap = larger(gap, step_gap(step));
-        i += 1;
+    for step in &filter.steps[..filter.count] {
+        gap = step_gap(*step).max(gap);
     }
     gap
 }
@@ -25,21 +22,7 @@ fn step_gap(step: LiftingStep) -> usize
     requires { WellFormedStep step }
     ensures { (result ≤ 4) × (4 ≤ step.lead + result) × (step.lead + step.count ≤ 5 + result) }
 {
-    let back = excess(4, step.lead);
-    let ahead = excess(step.lead + step.count, 5);
-    larger(back, ahead)
-}
-
-// How much larger the first of two numbers is, or 0.
-fn excess(a: usize, b: usize) -> usize
-    ensures { result ≡ a - b }
-{
-    if b < a { a - b } else { 0 }
-}
-
-// The larger of two numbers.
-fn larger(a: usize, b: usize) -> usize
-    ensures { result ≡ max a b }
-{
-    if a < b { b } else { a }
+    let back = 4usize.saturating_sub(step.lead);
+    let ahead = (step.lead + step.count).saturating_sub(5);
+    back.max(ahead)
 }

@@ -1,5 +1,5 @@
 // A turn of the sweep: each column step is run on the pairs of rows that it has come to.
-ghost use Rattle.std.specs.Prelude.{◌≡◌, true, ℕ, suc, ◌≤◌, ◌<◌};
+ghost use Rattle.std.specs.Prelude.{◌≡◌, true, ℕ, suc, ◌≤◌, ◌<◌, is_ok};
 ghost use Rattle.lifting.specs.Layout.{FrameFits};
 ghost use Rattle.filters.specs.Passes.{Picture};
 ghost use Rattle.filters.specs.Bounds.{BoundsFit};
@@ -10,6 +10,7 @@ ghost use Rattle.sweep.specs.Pairs.{Tells, EachPair, FramePut};
 ghost use Rattle.sweep.specs.Stages.{Spaced, Stages, Swept, reach_in, came_to};
 ghost use Rattle.sweep.specs.Turns.{Bounded, TurnFits, stepped};
 
+use base::status::OutOfRange;
 use filters::bounds::{Bounds, bounds_after};
 use filters::filter::{LiftingFilter, LiftingStep};
 use lifting::columns::lift_row;
@@ -22,15 +23,11 @@ pub const TURN_PAIRS: usize = 8;
 pub fn came_to(pairs: usize, lag: usize, reach: usize) -> usize
     ensures { result ≡ came_to pairs lag reach }
 {
-    if reach < lag {
-        return 0;
-    }
-    let come = reach - lag;
-    if come < pairs { come } else { pairs }
+    reach.saturating_sub(lag).min(pairs)
 }
 
 // Runs each step of a filter on the pairs of rows that it comes to at a turn. The bands of the turn's own pairs are interleaved, and the numbers that
-// were interleaved are at most `most` + 1 in size. False where a new number is outside 32 bits; then the plane's numbers are of no use.
+// were interleaved are at most `most` + 1 in size. Refuses where a new number is outside 32 bits; then the plane's numbers are of no use.
 pub fn lift_turn(
     work: &mut [i32],
     frame: Frame,
@@ -38,35 +35,30 @@ pub fn lift_turn(
     gap: usize,
     turn: usize,
     most: u32,
-) -> bool
+) -> Result<(), OutOfRange>
     requires frame_fits { FrameFits frame work.old × WellFormed filter × Spaced filter gap × (gap ≤ 4) × (turn < 4096) }
     requires bounded_2 { Bounded frame gap (reach_in frame filter turn 1) filter (suc most) work.old }
-    ensures bounded { result ≡ true → Bounded frame gap (reach_in frame filter turn (suc filter.count)) filter (suc most) work.new }
+    ensures bounded { is_ok result ≡ true → Bounded frame gap (reach_in frame filter turn (suc filter.count)) filter (suc most) work.new }
     ensures swept { (stages : ℕ → Picture) → Stages frame filter stages → Swept frame gap (reach_in frame filter turn 1) stages work.old
-        → Tells result (TurnFits frame filter gap turn stages)
-        × (result ≡ true → Swept frame gap (reach_in frame filter turn (suc filter.count)) stages work.new) }
+        → Tells (is_ok result) (TurnFits frame filter gap turn stages)
+        × (is_ok result ≡ true → Swept frame gap (reach_in frame filter turn (suc filter.count)) stages work.new) }
 {
-    let size = most as u64 + 1;
+    let size = u64::from(most) + 1;
     let mut bounds = Bounds {
         even: size,
         odd: size,
     };
-    let mut i = 0;
-    while i < filter.count {
-        let step = filter.steps[i];
+    for (i, step) in filter.steps[..filter.count].iter().enumerate() {
         let lag = (i + 1) * gap;
         let from = came_to(frame.band_rows, lag, turn);
         let to = came_to(frame.band_rows, lag, turn + TURN_PAIRS);
-        if !lift_rows(work, frame, step, from, to, bounds) {
-            return false;
-        }
-        bounds = bounds_after(step, bounds);
-        i += 1;
+        lift_rows(work, frame, *step, from, to, bounds)?;
+        bounds = bounds_after(*step, bounds);
     }
-    true
+    Ok(())
 }
 
-// Runs a step on the pairs of rows from one on to another. False as above.
+// Runs a step on the pairs of rows from one on to another. Refuses as above.
 fn lift_rows(
     work: &mut [i32],
     frame: Frame,
@@ -74,18 +66,14 @@ fn lift_rows(
     from: usize,
     to: usize,
     bounds: Bounds,
-) -> bool
+) -> Result<(), OutOfRange>
     requires frame_fits { FrameFits frame work.old × WellFormedStep step × BoundsFit bounds }
     requires from_le_to { (from ≤ to) × (to ≤ frame.band_rows) × ((k : ℕ) → from ≤ k → k < to → StepRowsWithin frame step k bounds work.old) }
-    ensures told { Tells result (EachPair from to (new_row_fits frame step work.old)) }
-    ensures done { result ≡ true → FramePut frame from to (stepped frame step work.old) work.old work.new }
+    ensures told { Tells (is_ok result) (EachPair from to (new_row_fits frame step work.old)) }
+    ensures done { is_ok result ≡ true → FramePut frame from to (stepped frame step work.old) work.old work.new }
 {
-    let mut k = from;
-    while k < to {
-        if !lift_row(work, frame, k, step, bounds) {
-            return false;
-        }
-        k += 1;
+    for k in from..to {
+        lift_row(work, frame, k, step, bounds)?;
     }
-    true
+    Ok(())
 }

@@ -5,73 +5,75 @@
 mod input;
 mod output;
 
-ghost use Rattle.std.specs.Prelude.{◌*◌, ◌≤◌, length};
+ghost use Rattle.std.specs.Prelude.{◌*◌, ◌≤◌, IfSome};
 
-use crate::input::{parameters_of, read_plane};
+use crate::input::{HEADER_SIZE, parameters_of, read_plane};
 use crate::output::{print_answer, print_rows};
+use base::status::Refusal;
 use component::checks::{area_within, padded_area};
-use component::parameters::Parameters;
+use component::parameters::{Answer, Parameters};
 use std::io;
 use std::io::Read;
-use vector_io::{bad_input, fill_plane, read_full};
+use text::read_full;
+use vector_io::bad_input;
 
 // The most coefficients of a job, and so the most samples.
 const AREA_MOST: usize = 65536;
 
-// Runs the jobs of the input. A proved loop has to end, so this one counts its turns down, from a number that no run uses up.
+// Room for the planes of a job.
+#[derive(Drop)]
+struct Planes {
+    coefficients: [i32; AREA_MOST],
+    work: [i32; AREA_MOST],
+    samples: [i32; AREA_MOST],
+}
+
+// Runs the jobs of the input. A proved loop has to end, so this one takes at most a number of turns that no run uses up.
 fn main(rt: HostRuntime) -> io::Result<()> {
     let mut input = rt.stdin();
-    let mut coefficients = [0i32; AREA_MOST];
-    let mut work = [0i32; AREA_MOST];
-    let mut samples = [0i32; AREA_MOST];
-    let mut turns = u64::MAX;
-    while turns > 0 && run_next(&rt, &mut input, &mut coefficients, &mut work, &mut samples)? {
-        turns -= 1;
+    let mut planes = Planes {
+        coefficients: [0; AREA_MOST],
+        work: [0; AREA_MOST],
+        samples: [0; AREA_MOST],
+    };
+    for _ in 0..u64::MAX {
+        if !run_next(&rt, &mut input, &mut planes)? {
+            break;
+        }
     }
     Ok(())
 }
 
-// Reads the next job and runs it, in planes of the largest size. Answers whether the input may have another.
-fn run_next(
-    rt: &impl Print,
-    input: &mut impl Read,
-    coefficients: &mut [i32; AREA_MOST],
-    work: &mut [i32; AREA_MOST],
-    samples: &mut [i32; AREA_MOST],
-) -> io::Result<bool> {
-    let mut header = [0u8; 6];
+// Reads the next job and runs it. Answers whether the input may have another.
+fn run_next(rt: &impl Print, input: &mut impl Read, planes: &mut Planes) -> io::Result<bool> {
+    let mut header = [0u8; HEADER_SIZE];
     let got = read_full(input, &mut header)?;
     if got == 0 {
         return Ok(false);
     }
-    if got < 6 {
+    if got < HEADER_SIZE {
         return bad_input(rt);
     }
-    run_job(
-        rt,
-        input,
-        parameters_of(&header),
-        coefficients,
-        work,
-        samples,
-    )
+    let p = parameters_of(&header);
+    match coefficient_count(p) {
+        Some(count) => run_job(rt, input, p, count, planes),
+        None => bad_input(rt),
+    }
 }
 
-// Reads the coefficients of a job and runs it. Answers whether the input may have another.
+// Reads the coefficients of a job, so many, and runs it. Answers whether the input may have another.
 fn run_job(
     rt: &impl Print,
     input: &mut impl Read,
     p: Parameters,
-    coefficients: &mut [i32],
-    work: &mut [i32],
-    samples: &mut [i32],
+    count: usize,
+    planes: &mut Planes,
 ) -> io::Result<bool>
-    requires { (65536 ≤ length coefficients.old) × (65536 ≤ length work.old) × (65536 ≤ length samples.old) }
+    requires { (count ≤ 65536) × (1 ≤ p.width) × (p.width ≤ 4096) × (p.width * p.height ≤ count) }
 {
-    let count = coefficient_count(p);
-    if count == 0 {
-        return bad_input(rt);
-    }
+    let coefficients = &mut planes.coefficients[..];
+    let work = &mut planes.work[..];
+    let samples = &mut planes.samples[..];
     if !read_plane(input, &mut coefficients[..count])? {
         return bad_input(rt);
     }
@@ -86,14 +88,14 @@ fn run_job(
     Ok(true)
 }
 
-// How many coefficients a job has, or 0 where a size or the depth is out of range or the plane is too large.
-fn coefficient_count(p: Parameters) -> usize
-    ensures { (result ≤ 65536) × (1 ≤ result → (1 ≤ p.width) × (p.width ≤ 4096) × (p.width * p.height ≤ result)) }
+// How many coefficients a job has, where its sizes and depth are in range and the plane is not too large.
+fn coefficient_count(p: Parameters) -> Option<usize>
+    ensures { IfSome result (λ count. (count ≤ 65536) × (1 ≤ p.width) × (p.width ≤ 4096) × (p.width * p.height ≤ count)) }
 {
     if area_within(p, AREA_MOST) {
-        padded_area(p)
+        Some(padded_area(p))
     } else {
-        0
+        None
     }
 }
 
@@ -107,18 +109,19 @@ fn synthesise_and_print(
 ) -> io::Result<()>
     requires { (1 ≤ p.width) × (p.width ≤ 4096) }
 {
-    fill_plane(work, 7);
-    fill_plane(samples, 7);
-    let answer = transform::synthesise(p, coefficients, work, samples);
-    print_answer(rt, p, answer)?;
-    let status = answer.status;
-    if status == 0 {
+    work.fill(7);
+    samples.fill(7);
+    let synthesised = transform::synthesise(p, coefficients, work, samples);
+    print_answer(rt, p, Answer::from(synthesised))?;
+    if synthesised.is_ok() {
         print_rows(rt, samples, p.width as usize)?;
     }
-    if (status == 0 || status == 10) && !is_zero(work) {
+    let overflowed = synthesised.is_err_and(|refused| refused.refusal
+        == Refusal::SynthesisOutOfRange);
+    if (synthesised.is_ok() || overflowed) && !is_zero(work) {
         rt.write_all(b"work not zero\n")?;
     }
-    if status == 10 && !is_zero(samples) {
+    if overflowed && !is_zero(samples) {
         rt.write_all(b"samples not zero\n")?;
     }
     Ok(())
@@ -126,12 +129,5 @@ fn synthesise_and_print(
 
 // Whether the whole plane is zero.
 fn is_zero(plane: &[i32]) -> bool {
-    let mut i = 0;
-    while i < plane.len() {
-        if plane[i] != 0 {
-            return false;
-        }
-        i += 1;
-    }
-    true
+    plane.iter().all(|entry| *entry == 0)
 }

@@ -7,14 +7,19 @@ use Prim.Native.Nat.{ℕ, zero, suc, ◌-◌, ◌*◌, ◌/◌, ◌%◌, ◌^◌
 use native.Mathlib.Nat.{mul-suc, pow-succ', one-le-pow}
 use native.Mathlib.Omega.{arith}
 use lib.Dec.{ltb}
-use lib.IntN.{ℤ, pos, negsuc, nat_abs}
-use lib.Signed.{mag, lt_z}
+use lib.IntN.{ℤ, pos, nat_abs}
+use lib.Signed.{mag}
 use lib.ListN.{length, take, drop, get_or, length-append}
 use lib.Seq.{take-suc, drop-drop}
-use borrow.Author.Tests.{ltb-true, ltb-false, lt-ltb, le-ltb}
+use borrow.Author.Tests.{ltb-true, ltb-false, lt-ltb}
 use Rattle.base.proofs.Integers.{size-mag}
 use Rattle.io.specs.Digits.{last_digits, hex_digit_ascii, IsDigitCount}
 use Rattle.text.specs.Text.{ascii, digits_within, decimal, signed_text, spaced, row_text, rows_text}
+
+-- a text that goes on by a piece, and then by another
+pub put_both : (t₀ p t₁ q t₂ whole : List ℕ) → p ++ q ≡ whole → t₁ ≡ t₀ ++ p → t₂ ≡ t₁ ++ q → t₂ ≡ t₀ ++ whole
+put_both t₀ p t₁ q t₂ whole same first second =
+    second ∙ ap (λ (l : List ℕ). l ++ q) first ∙ append_assoc t₀ p q ∙ ap (λ (l : List ℕ). t₀ ++ l) same
 
 -- a number below 10 has one digit
 pub fewest-small : (n r : ℕ) → IsDigitCount 10 1 n r → n < 10 → 1 ≡ r
@@ -83,17 +88,6 @@ decimal-short n h = rw (length_digits 10 (digits_within 20 n) n) (digits-most 20
 pub size-short : (z : ℤ) (n : ℕ) → mag z < 2 ^ 31 → n ≡ nat_abs z → length (decimal n) ≤ 10
 size-short z n small e = decimal-short n (omega (arith, size-mag z))
 
--- the text of a number below 0, and of another
-pub signed_below : (z : ℤ) (n : ℕ) → lt_z z (pos 0) ≡ true → n ≡ nat_abs z → ascii "-" ++ decimal n ≡ signed_text z
-unfolding signed_text
-signed_below (pos m) n t e = cc (le-ltb m 0 (omega arith))
-signed_below (negsuc m) n t e = ap (λ (k : ℕ). ascii "-" ++ decimal k) e
-
-pub signed_above : (z : ℤ) (n : ℕ) → lt_z z (pos 0) ≡ false → n ≡ nat_abs z → decimal n ≡ signed_text z
-unfolding signed_text
-signed_above (pos m) n t e = ap decimal e
-signed_above (negsuc m) n t e = cc
-
 -- the numbers of two lists, one after the other
 pub spaced-both : (k l : List ℤ) → spaced (k ++ l) ≡ spaced k ++ spaced l
 unfolding spaced
@@ -112,22 +106,6 @@ spaced-more l x z h e =
     let next : x + 1 ≡ suc x = omega arith in
     rw (next, take-suc l x (pos 0) h, spaced-both (take x l) (get_or l x (pos 0) ∷ []), e)
     (ap (λ (s : List ℕ). spaced (take x l) ++ s) (sym (append-nil (ascii " " ++ signed_text (get_or l x (pos 0))))))
-
--- a row of none, and of some
-pub row-none : (l : List ℤ) → length l ≡ 0 → ascii "\n" ≡ row_text l
-unfolding row_text
-row-none [] h = refl
-row-none (z ∷ l) h = absurd (omega arith)
-
-pub row-some :
-    (l : List ℤ) (z : ℤ) (rest : List ℤ)
-    → 0 < length l
-    → z ≡ get_or l 0 (pos 0)
-    → rest ≡ drop 1 l
-    → signed_text z ++ spaced rest ++ ascii "\n" ≡ row_text l
-unfolding row_text
-row-some [] z rest h e f = absurd (omega arith)
-row-some (y ∷ l) z rest h e f = rw (e, f) refl
 
 -- the rows but the last, and the last, which starts at entry `from`
 rows_last :

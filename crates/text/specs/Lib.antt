@@ -1,4 +1,2 @@
 -- Document 01
 pub mod Text
--- The code's own forms
-pub mod Put

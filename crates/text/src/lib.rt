@@ -1,8 +1,9 @@
-// Text put into bytes. Each `put` puts a piece from an index on and answers the index after it.
+// Text put into bytes, piece by piece, and the bytes of an input.
 #![tactic(auto)]
 
+mod buffer;
+mod input;
 mod numbers;
-mod words;
 
-pub use numbers::{put_decimal, put_row, put_rows};
-pub use words::put_word;
+pub use buffer::TextBuffer;
+pub use input::read_full;

@@ -1,5 +1,5 @@
 -- The code's own forms: how the levels of a component share the work plane. No definition of the format rests on them.
-use Rattle.std.specs.Prelude.{ℕ, suc, ◌-◌, ◌*◌, ◌^◌, ◌≤◌, ◌<◌, ◌≡◌, Bool, List, ℤ, length}
+use Rattle.std.specs.Prelude.{ℕ, suc, ◌-◌, ◌*◌, ◌^◌, ◌≤◌, ◌<◌, ◌≡◌, ◌≢◌, Bool, Result, Ok, Err, List, ℤ, length}
 use Rattle.base.specs.Lists.{zeros_like}
 use Rattle.component.specs.Sizes.{size_at, padded_width, low_height, low_width}
 use Rattle.component.specs.declared.parameters.Parameters.{Parameters}
@@ -52,6 +52,11 @@ module _ (f : LiftingFilter) (e : Extent) where
 
   abbrev pub level_numbers_fit : ℕ → Picture → Bool
   level_numbers_fit n P = all_new_fit (size_at e.low_rows (suc n)) (size_at e.low_columns (suc n)) (synthesis_passes (filter_from f)) P
+
+-- Ok tells that no level is bad, and an error the first that is.
+abbrev pub TellsBad : Result (Unit {0}) ℕ → ℕ → Type 0
+TellsBad (Ok done) bad = bad ≡ 0
+TellsBad (Err level) bad = (bad ≡ level) × (level ≢ 0)
 
 -- The picture that level n + 1 starts from: its bands around the picture of depth n in the work plane.
 abbrev pub level_input : Extent → List ℤ → List ℤ → ℕ → Picture

@@ -18,11 +18,9 @@ pub fn copy_rows(
     requires columns_le_from_stride { (columns ≤ from_stride) × (rows * from_stride ≤ length from.now) }
     ensures { Agree rows columns (picture_of to_stride to.new) (picture_of from_stride from.now) }
 {
-    let mut row = 0;
-    while row < rows {
+    for row in 0..rows {
         let to_row = row * to_stride;
         let from_row = row * from_stride;
         plane::copy(to, to_row, from, from_row, columns);
-        row += 1;
     }
 }

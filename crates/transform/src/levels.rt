@@ -1,13 +1,15 @@
 // Document 01, "Synthesis and analysis": the levels of synthesis, in the work plane, and the last of them into the samples.
-ghost use Rattle.std.specs.Prelude.{◌≡◌, true, suc, ◌-◌, ◌*◌, ◌^◌, ◌≤◌};
+ghost use Rattle.std.specs.Prelude.{◌≡◌, true, suc, ◌-◌, ◌*◌, ◌^◌, ◌≤◌, is_ok, OnOk};
 ghost use Rattle.component.specs.Sizes.{size_at};
 ghost use Rattle.filters.specs.Table.{WellFormed};
-ghost use Rattle.transform.specs.Geometry.{Planes, coefficient_picture, picture_at, first_bad_at, level_input, level_picture, level_numbers_fit, Stands};
+ghost use Rattle.transform.specs.Geometry.{Planes, coefficient_picture, picture_at, first_bad_at, level_input, level_picture, level_numbers_fit, TellsBad, Stands};
 
 use crate::bands::copy_rows;
 use base::plane::zero;
+use base::status::OutOfRange;
 use filters::filter::LiftingFilter;
 use lifting::frame::Frame;
+use lines::buffers::LineBuffer;
 use sweep::gaps::gap_of;
 use sweep::level::{Level, sweep_level};
 use sweep::rows::Crop;
@@ -24,35 +26,31 @@ pub struct Extent {
 }
 
 // Builds the picture of depth n on the picture of depth n − 1, in the work plane; at the component's depth its first rows and columns in the
-// samples, and then the work plane is all zeros. Answers the first level that assigns a number outside 32 bits, and then the numbers of both
-// planes are of no use; or 0.
+// samples, and then the work plane is all zeros. An error is the first level that assigns a number outside 32 bits, which is the job's place; then the
+// numbers of both planes are of no use.
 pub fn synthesise_levels(
     work: &mut [i32],
     samples: &mut [i32],
     coefficients: &[i32],
-    halves: &mut [i32; 4112],
+    halves: &mut LineBuffer,
     extent: Extent,
     filter: LiftingFilter,
     n: usize,
-) -> usize
+) -> Result<(), usize>
     requires planes { Planes extent work.old samples.old coefficients.now }
     requires well_formed { WellFormed filter × (n ≤ extent.depth) }
-    ensures told { result ≡ first_bad_at filter extent coefficients.now n }
-    ensures done { result ≡ 0 → Stands extent n (picture_at filter extent coefficients.now n) work.old work.new samples.new }
+    ensures told { TellsBad result (first_bad_at filter extent coefficients.now n) }
+    ensures done { OnOk result (Stands extent n (picture_at filter extent coefficients.now n) work.old work.new samples.new) }
 {
     if n == 0 {
         put_low_band(work, samples, coefficients, extent);
-        return 0;
+        return Ok(());
     }
     let below = n - 1;
-    let bad = synthesise_levels(work, samples, coefficients, halves, extent, filter, below);
-    if bad != 0 {
-        return bad;
-    }
-    if synthesise_level(work, samples, coefficients, halves, extent, filter, below) {
-        0
-    } else {
-        n
+    synthesise_levels(work, samples, coefficients, halves, extent, filter, below)?;
+    match synthesise_level(work, samples, coefficients, halves, extent, filter, below) {
+        Ok(()) => Ok(()),
+        Err(OutOfRange) => Err(n),
     }
 }
 
@@ -80,36 +78,31 @@ fn put_low_band(work: &mut [i32], samples: &mut [i32], coefficients: &[i32], ext
 }
 
 // Builds the picture of the next level on the one that stands in the work plane: interleaves its bands, filters every column, then every
-// row, with the shift. False where it assigns a number outside 32 bits; then the numbers of both planes are of no use.
+// row, with the shift. Refuses where it assigns a number outside 32 bits; then the numbers of both planes are of no use.
 fn synthesise_level(
     work: &mut [i32],
     samples: &mut [i32],
     coefficients: &[i32],
-    halves: &mut [i32; 4112],
+    halves: &mut LineBuffer,
     extent: Extent,
     filter: LiftingFilter,
     below: usize,
-) -> bool
+) -> Result<(), OutOfRange>
     requires planes { Planes extent work.old samples.old coefficients.now }
     requires well_formed { WellFormed filter × (suc below ≤ extent.depth) }
-    ensures told { result ≡ level_numbers_fit filter extent below (level_input extent work.old coefficients.now below) }
-    ensures done { result ≡ true → Stands extent (suc below)
+    ensures told { is_ok result ≡ level_numbers_fit filter extent below (level_input extent work.old coefficients.now below) }
+    ensures done { is_ok result ≡ true → Stands extent (suc below)
         (level_picture filter extent below (level_input extent work.old coefficients.now below))
         work.old work.new samples.new }
 {
     let frame = next_frame(extent, below);
     let gap = gap_of(filter);
-    let finishes = below + 1 == extent.depth;
-    let crop = Crop {
+    let sizes = Crop {
         width: extent.width,
         height: extent.height,
     };
-    let level = Level {
-        frame,
-        gap,
-        finishes,
-        crop,
-    };
+    let crop = (below + 1 == extent.depth).then_some(sizes);
+    let level = Level { frame, gap, crop };
     sweep_level(
         work,
         samples,
@@ -128,13 +121,9 @@ fn next_frame(extent: Extent, below: usize) -> Frame
     ensures { (result.stride ≡ extent.padded_width * 2 ^ (extent.depth - suc below))
         × (result.band_rows ≡ size_at extent.low_rows below) × (result.band_columns ≡ size_at extent.low_columns below) }
 {
-    let levels_above = extent.depth - 1 - below;
-    let stride = extent.padded_width << levels_above;
-    let band_rows = extent.low_rows << below;
-    let band_columns = extent.low_columns << below;
     Frame {
-        stride,
-        band_rows,
-        band_columns,
+        stride: extent.padded_width << (extent.depth - 1 - below),
+        band_rows: extent.low_rows << below,
+        band_columns: extent.low_columns << below,
     }
 }

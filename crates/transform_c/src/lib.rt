@@ -29,29 +29,35 @@ pub struct KafsillunAnswer {
 }
 
 // The parameters that those of C stand for.
-pub fn parameters_of(p: KafsillunParameters) -> Parameters
-    ensures { result ≡ parameters_of p }
-{
-    let across = p.codeblocks_across;
-    let down = p.codeblocks_down;
-    Parameters {
-        width: p.width,
-        height: p.height,
-        depth: p.depth,
-        wavelet: p.wavelet,
-        intra: p.intra != 0,
-        codeblocks_across: across,
-        codeblocks_down: down,
+impl From<KafsillunParameters> for Parameters {
+    ghost from_gives = { λ p q. q ≡ parameters_of p };
+
+    #[tactic(auto, unfolding(crate::specs::Interface::parameters_of))]
+    fn from(p: KafsillunParameters) -> Parameters {
+        let across = p.codeblocks_across;
+        let down = p.codeblocks_down;
+        Parameters {
+            width: p.width,
+            height: p.height,
+            depth: p.depth,
+            wavelet: p.wavelet,
+            intra: p.intra != 0,
+            codeblocks_across: across,
+            codeblocks_down: down,
+        }
     }
 }
 
 // An answer's two numbers, for C.
-pub fn answer_of(a: Answer) -> KafsillunAnswer
-    ensures { answer_of result ≡ a }
-{
-    KafsillunAnswer {
-        status: a.status,
-        place: a.place,
+impl From<Answer> for KafsillunAnswer {
+    ghost from_gives = { λ a c. answer_of c ≡ a };
+
+    #[tactic(auto, unfolding(crate::specs::Interface::answer_of))]
+    fn from(answer: Answer) -> KafsillunAnswer {
+        KafsillunAnswer {
+            status: answer.status,
+            place: answer.place,
+        }
     }
 }
 
@@ -66,6 +72,6 @@ pub extern "C" fn kafsillun_synthesise(
     ensures { outcome (answer_of result) work.new samples.new
         ≡ synthesised (parameters_of p) coefficients.now work.old samples.old }
 {
-    let answer = transform::synthesise(parameters_of(p), coefficients, work, samples);
-    answer_of(answer)
+    let answer = transform::synthesise(Parameters::from(p), coefficients, work, samples);
+    KafsillunAnswer::from(Answer::from(answer))
 }

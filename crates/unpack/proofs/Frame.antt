@@ -19,20 +19,16 @@ use Rattle.component.specs.declared.parameters.Parameters.{Parameters}
 use Rattle.component.proofs.SubbandsLaws.{subband-inside}
 use Rattle.component.proofs.Tiling.{tiled}
 use Rattle.coefficients.specs.Quantiser.{dequantise}
-use Rattle.coefficients.specs.Reading.{Run, goes_on, going}
-use Rattle.coefficients.specs.declared.reading.Progress.{Progress}
-use Rattle.coefficients.specs.declared.reading.Progress.TheVariants.{At, Refused}
+use Rattle.coefficients.specs.Reading.{Progress, At, Refused, Run, goes_on, going}
 use Rattle.codeblocks.specs.Codeblocks.{codeblocks}
 use Rattle.codeblocks.specs.declared.CodeblockGrid.{CodeblockGrid}
 use Rattle.codeblocks.proofs.CodeblocksLaws.{codeblocks-keep}
 use Rattle.prediction.specs.Prediction.{prediction}
 use Rattle.prediction.proofs.PredictionLaws.{prediction-keeps}
-use Rattle.unpack.specs.Header.{header_at}
+use Rattle.unpack.specs.Header.{Header, Skipped, Coded, Refused as RefusedHeader, header_at}
 use Rattle.unpack.specs.Subband.{goes_on_at, subband_data, checked_data, headed, predicted_band, is_predicted, subband_of, codeblocks_of, subband_from, subband}
 use Rattle.unpack.specs.Job.{UnpackResult, ended_with, subbands_from}
 use Rattle.unpack.specs.Bounds.{Checked, ClearBandsFrom}
-use Rattle.unpack.specs.declared.header.Header.{Header}
-use Rattle.unpack.specs.declared.header.Header.TheVariants.{Skipped, Coded, Refused as RefusedHeader}
 use Rattle.unpack.proofs.SubbandLaws.{codeblocks-counted}
 use Rattle.unpack.proofs.Within.{Lands, Ends, subband-lands}
 

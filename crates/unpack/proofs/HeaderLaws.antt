@@ -11,17 +11,15 @@ use lib.ListN.{length}
 use lib.Pow.{pow_mono}
 use borrow.Author.Tests.{lt-ltb, le-ltb, eq-eqb, ne_eqb}
 use Rattle.exp_golomb.specs.Bits.{present, take_bit}
-use Rattle.exp_golomb.specs.Codes.{code_from, unsigned}
-use Rattle.exp_golomb.specs.declared.codes.Number.{Number}
-use Rattle.exp_golomb.specs.declared.codes.Number.TheVariants.{Read, Missing, TooLong}
-use Rattle.exp_golomb.proofs.BitsLaws.{taken, takes}
-use Rattle.exp_golomb.proofs.CodesLaws.{code-missing, code-ends, code-too-long, code-cut, code-goes-on, value_grows}
+use Rattle.std.specs.Prelude.{Err}
+use Rattle.base.specs.declared.status.Fault.{Fault}
+use Rattle.exp_golomb.specs.Codes.{Number, Read, Missing, TooLong, result_of, code_from, unsigned}
+use Rattle.exp_golomb.proofs.BitsLaws.{bit-taken, takes}
+use Rattle.exp_golomb.proofs.CodesLaws.{result-fault, code-missing, code-ends, code-too-long, code-cut, code-goes-on, value_grows}
 use Rattle.exp_golomb.proofs.Extent.{CodeEnd, unsigned-end, unsigned-same}
 use Rattle.exp_golomb.proofs.Followed.{number-followed}
-use Rattle.unpack.specs.Header.{boundary, refused_at, on_read, header_at}
+use Rattle.unpack.specs.Header.{Header, Skipped, Coded, Refused, header_of, boundary, refused_at, on_read, header_at}
 use Rattle.unpack.specs.Bounds.{SoundHeader}
-use Rattle.unpack.specs.declared.header.Header.{Header}
-use Rattle.unpack.specs.declared.header.Header.TheVariants.{Skipped, Coded, Refused}
 
 -- a bit is there before an end that is out of its reach just where it is there before the bytes' own end
 present-open : (bytes : List ℕ) (end k : ℕ) → k < end → present bytes end k ≡ present bytes (8 * length bytes) k
@@ -64,7 +62,7 @@ module _ (bytes : List ℕ) (end : ℕ) (stated : Bool) where
             takes (size_read (code_from bytes end stated (suc left) v i) < 2 ^ 32) (take_bit bytes end stated next)
             (λ d after e2.
             let less : suc left - 1 ≡ left = omega arith in
-            let grown : 2 * v + d < 2 ^ (32 - left) = rw less at (value_grows v d (suc left) few (omega arith) (taken bytes end stated next d after e2).small below) in
+            let grown : 2 * v + d < 2 ^ (32 - left) = rw less at (value_grows v d (suc left) few (omega arith) (bit-taken bytes end stated next d after e2).small below) in
             rw (code-goes-on bytes end stated (suc left) v i bit next d after e other (omega arith) e2, less)
             (code-small left (2 * v + d) after (omega arith) grown))
             (λ e2. rw (code-cut bytes end stated (suc left) v i bit next e other (omega arith) e2) (omega arith))
@@ -78,6 +76,10 @@ module _ (bytes : List ℕ) (end : ℕ) (stated : Bool) where
   number_small : (i size : ℕ) (minus : Bool) (next : ℕ) → unsigned bytes end stated i ≡ Read size minus next → size < 2 ^ 32
   unfolding unsigned
   number_small i size minus next e = subst (λ (n : Number). size_read n < 2 ^ 32) e (code-small 31 1 i (omega arith) (omega arith))
+
+-- the fault of a number that was not read is the header's
+pub fault-refused : (number : Number) (fault : Fault) → Err fault ≡ result_of number → header_of (Err fault) ≡ refused_at number
+fault-refused number fault e = let f = result-fault number fault e in rw (f.0, f.1) refl
 
 -- a number that was not read ends a header
 read-refused : (number : Number) (go : ℕ → ℕ → Header) → ((size : ℕ) (minus : Bool) (next : ℕ) → number ≡ Read size minus next → ⊥) →

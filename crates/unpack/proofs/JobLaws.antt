@@ -8,7 +8,9 @@ use native.Mathlib.Omega.{arith}
 use lib.IntN.{ℤ}
 use lib.ListN.{length, length-replicate}
 use borrow.Author.Tests.{eq-eqb, ne_eqb, eqb-true, not-false}
+use Rattle.std.specs.Prelude.{Result}
 use Rattle.base.specs.Lists.{zeros_like}
+use Rattle.base.specs.declared.status.Fault.{Fault}
 use Rattle.base.proofs.Booleans.{and_left}
 use Rattle.base.proofs.ListsLaws.{zeros-length}
 use Rattle.component.specs.Checks.{area_of, planes_fit, refusal_of}
@@ -16,10 +18,8 @@ use Rattle.component.specs.Subbands.{subband_count}
 use Rattle.component.specs.declared.parameters.Parameters.{Parameters}
 use Rattle.component.specs.declared.parameters.Job.TheVariants.{Unpack}
 use Rattle.component.proofs.ChecksLaws.{passed}
-use Rattle.coefficients.specs.Reading.{Run, goes_on}
+use Rattle.coefficients.specs.Reading.{Progress, At, Refused, progress_of, Run, goes_on}
 use Rattle.coefficients.specs.Values.{after}
-use Rattle.coefficients.specs.declared.reading.Progress.{Progress}
-use Rattle.coefficients.specs.declared.reading.Progress.TheVariants.{At, Refused}
 use Rattle.unpack.specs.Subband.{subband}
 use Rattle.unpack.specs.Job.{UnpackResult, ended_with, subbands_from, unpacked}
 use Rattle.unpack.specs.Bounds.{Checked}
@@ -31,8 +31,8 @@ module _ (p : Parameters) (bytes : List ℕ) (k at : ℕ) (plane : List ℤ) whe
   subbands-end = refl
 
   -- subband k and those after it, from what was read of subband k
-  pub subbands-read : (n : ℕ) (progress : Progress) (last : List ℤ) → after progress last ≡ subband p bytes k (goes_on at plane) →
-      ended_with k progress last (subbands_from p bytes n (k + 1)) ≡ subbands_from p bytes (suc n) k at plane
+  pub subbands-read : (n : ℕ) (progress : Result ℕ Fault) (last : List ℤ) → after progress last ≡ subband p bytes k (goes_on at plane) →
+      ended_with k (progress_of progress) last (subbands_from p bytes n (k + 1)) ≡ subbands_from p bytes (suc n) k at plane
   unfolding subbands_from
   subbands-read n progress last e =
       let more : k + 1 ≡ suc k = omega arith in

@@ -4,11 +4,13 @@ use mathlib.Core.Path.{◌≡◌, refl, subst}
 use mathlib.Core.Logic.{◌≢◌}
 use mathlib.Core.Bool.{Bool, true, false, cond}
 use mathlib.Core.List.{List}
-use Prim.Native.Nat.{ℕ, zero, suc, ◌+◌, ◌*◌, ◌≤◌, ◌<◌}
+use Prim.Native.Nat.{ℕ, zero, suc, ◌<◌}
 use native.Mathlib.Nat.{mul-le-mul_right, mul_comm}
 use native.Mathlib.Omega.{arith}
 use lib.IntN.{ℤ}
 use lib.ListN.{length}
+use Rattle.std.specs.Prelude.{Ok, Err}
+use Rattle.base.specs.declared.status.Fault.{Fault}
 use Rattle.component.specs.Sizes.{padded_size}
 use Rattle.component.specs.Checks.{area_of}
 use Rattle.component.specs.Subbands.{subband_count, subband_level, subband_at}
@@ -18,7 +20,6 @@ use Rattle.component.proofs.SubbandsLaws.{subband-inside}
 use Rattle.component.proofs.ChecksLaws.{width_most, height_most, depth_most, counts-at}
 use Rattle.coefficients.specs.Reading.{Run, goes_on, stops, going}
 use Rattle.coefficients.specs.Values.{after}
-use Rattle.coefficients.specs.declared.reading.Progress.TheVariants.{At, Refused}
 use Rattle.codeblocks.specs.Blocks.{Counted, Placed}
 use Rattle.codeblocks.specs.declared.CodeblockGrid.{CodeblockGrid}
 use Rattle.prediction.specs.Prediction.{ended, prediction}
@@ -53,22 +54,15 @@ codeblocks-placed p checked k below plane long =
           omega (arith, mul-le-mul_right (padded_size p.depth p.width) inside.1, mul_comm (padded_size p.depth p.height) (padded_size p.depth p.width), long);
     }
 
--- so does a band of its size at the top left
-pub band-inside : (b : CodeblockGrid) (plane : List ℤ) → Placed b plane →
-    (b.subband.width ≤ b.stride) × (b.stride ≤ 4096) × (b.subband.height ≤ 4096) × (b.subband.height * b.stride ≤ length plane)
-band-inside b plane placed =
-    let lower : b.subband.height ≤ b.subband.top + b.subband.height = omega arith in
-    (omega (arith, placed.counted.wide), placed.counted.narrow, omega (arith, placed.counted.tall), omega (arith, mul-le-mul_right b.stride lower, placed.inside))
-
 -- the data of a subband, read to their end or refused: reading goes on where the length ends
 module _ (next : ℕ) (plane : List ℤ) (r : Run) where
-  pub data-ends : (bit : ℕ) → after (At bit) plane ≡ r → after (At next) plane ≡ goes_on_at next r
+  pub data-ends : (bit : ℕ) → after (Ok bit) plane ≡ r → after (Ok next) plane ≡ goes_on_at next r
   unfolding goes_on_at going
   data-ends bit e = subst (λ (s : Run). goes_on next plane ≡ going s.progress s.plane (λ at. goes_on next s.plane)) e refl
 
-  pub data-stop : (status bit : ℕ) → after (Refused status bit) plane ≡ r → after (Refused status bit) plane ≡ goes_on_at next r
+  pub data-stop : (fault : Fault) → after (Err fault) plane ≡ r → after (Err fault) plane ≡ goes_on_at next r
   unfolding goes_on_at going
-  data-stop status bit e = subst (λ (s : Run). stops status bit plane ≡ going s.progress s.plane (λ at. goes_on next s.plane)) e refl
+  data-stop fault e = subst (λ (s : Run). after (Err fault) plane ≡ going s.progress s.plane (λ at. goes_on next s.plane)) e refl
 
 -- a band that was predicted, and one with a value that does not fit
 module _ (b : CodeblockGrid) (bit : ℕ) (plane last : List ℤ) where

@@ -14,16 +14,12 @@ use borrow.Author.Tests.{le-ltb}
 use Rattle.base.specs.Lists.{zeros_like}
 use Rattle.component.specs.Subbands.{subband_count}
 use Rattle.component.specs.declared.parameters.Parameters.{Parameters}
-use Rattle.coefficients.specs.Reading.{Run, goes_on, going}
-use Rattle.coefficients.specs.declared.reading.Progress.{Progress}
-use Rattle.coefficients.specs.declared.reading.Progress.TheVariants.{At, Refused}
+use Rattle.coefficients.specs.Reading.{Progress, At, Refused, Run, goes_on, going}
 use Rattle.codeblocks.specs.declared.CodeblockGrid.{CodeblockGrid}
 use Rattle.prediction.specs.Prediction.{prediction}
-use Rattle.unpack.specs.Header.{header_at}
+use Rattle.unpack.specs.Header.{Header, Skipped, Coded, Refused as RefusedHeader, header_at}
 use Rattle.unpack.specs.Subband.{goes_on_at, subband_data, checked_data, headed, predicted_band, is_predicted, codeblocks_of, subband_from, subband}
 use Rattle.unpack.specs.Job.{UnpackResult, ended_with, subbands_from, unpacked}
-use Rattle.unpack.specs.declared.header.Header.{Header}
-use Rattle.unpack.specs.declared.header.Header.TheVariants.{Skipped, Coded, Refused as RefusedHeader}
 use Rattle.unpack.proofs.HeaderLaws.{Announced, header-announced, EndsBy, header-followed}
 use Rattle.unpack.proofs.JobLaws.{job_read}
 use Rattle.unpack.proofs.Within.{Lands, Ends, Between, subband-lands, used-between, accepted-read, used-at-most}

@@ -17,23 +17,16 @@ use Rattle.base.specs.Range.{fits32}
 use Rattle.base.proofs.WalkLaws.{walk-holds}
 use Rattle.component.specs.Subbands.{subband_count}
 use Rattle.component.specs.declared.parameters.Parameters.{Parameters}
-use Rattle.exp_golomb.specs.Bits.{take_bit}
-use Rattle.exp_golomb.specs.declared.bits.Bit.{Bit}
-use Rattle.exp_golomb.specs.declared.bits.Bit.TheVariants.{Taken, Absent}
-use Rattle.exp_golomb.specs.declared.codes.Number.{Number}
-use Rattle.exp_golomb.specs.declared.codes.Number.TheVariants.{Read, Missing, TooLong}
-use Rattle.coefficients.specs.Reading.{Run, goes_on, stops, going, on_number, store, value, rectangle_values}
-use Rattle.coefficients.specs.declared.reading.Progress.{Progress}
-use Rattle.coefficients.specs.declared.reading.Progress.TheVariants.{At, Refused}
+use Rattle.exp_golomb.specs.Bits.{Bit, Taken, Absent, take_bit}
+use Rattle.exp_golomb.specs.Codes.{Number, Read, Missing, TooLong}
+use Rattle.coefficients.specs.Reading.{Progress, At, Refused, Run, goes_on, stops, going, on_number, store, value, rectangle_values}
 use Rattle.coefficients.specs.declared.reading.Rectangle.{Rectangle}
 use Rattle.codeblocks.specs.Codeblocks.{on_flag, codeblock_area, codeblock_values, codeblock, codeblocks}
 use Rattle.codeblocks.specs.declared.CodeblockGrid.{CodeblockGrid}
 use Rattle.prediction.specs.Prediction.{prediction}
-use Rattle.unpack.specs.Header.{header_at}
+use Rattle.unpack.specs.Header.{Header, Skipped, Coded, Refused as RefusedHeader, header_at}
 use Rattle.unpack.specs.Subband.{goes_on_at, subband_data, checked_data, headed, predicted_band, is_predicted, codeblocks_of, subband_from, subband}
 use Rattle.unpack.specs.Job.{UnpackResult, ended_with, subbands_from, unpacked}
-use Rattle.unpack.specs.declared.header.Header.{Header}
-use Rattle.unpack.specs.declared.header.Header.TheVariants.{Skipped, Coded, Refused as RefusedHeader}
 use Rattle.unpack.proofs.HeaderLaws.{Follows, Announced, header-announced}
 use Rattle.unpack.proofs.JobLaws.{status, job-refused, job_read}
 

@@ -1,16 +1,12 @@
--- The code's own forms: parameters that passed the checks, subbands that hold zeros, headers whose data can be counted, and the status of
--- a run. No definition of the format
--- rests on them.
+-- The code's own forms: parameters that passed the checks, subbands that hold zeros, and headers whose data can be counted.
+-- No definition of the format rests on them.
 use Rattle.std.specs.Prelude.{ℕ, ◌+◌, ◌*◌, ◌≤◌, ◌<◌, ◌^◌, ◌≡◌, true, List, ℤ, pos, get_or}
 use Rattle.component.specs.Checks.{sizes_in_range, depth_in_range, codeblocks_in_range}
 use Rattle.component.specs.Subbands.{subband_count, InSubband}
 use Rattle.component.specs.declared.parameters.Parameters.{Parameters}
-use Rattle.coefficients.specs.declared.reading.Progress.{Progress}
-use Rattle.coefficients.specs.declared.reading.Progress.TheVariants.{At, Refused}
 use Rattle.codeblocks.specs.declared.CodeblockGrid.{CodeblockGrid}
 use Rattle.unpack.specs.Subband.{codeblocks_of}
-use Rattle.unpack.specs.declared.header.Header.{Header}
-use Rattle.unpack.specs.declared.header.Header.TheVariants.{Skipped, Coded, Refused as RefusedHeader}
+use Rattle.unpack.specs.Header.{Header, Skipped, Coded, Refused}
 
 -- The parameters of a component that has passed the checks of unpack.
 pub record Checked (p : Parameters) : Type 0 where
@@ -30,9 +26,4 @@ pub record ClearBandsFrom (p : Parameters) (k : ℕ) (plane : List ℤ) : Type 0
 abbrev pub SoundHeader : Header → Type 0
 SoundHeader (Skipped bit) = Unit {0}
 SoundHeader (Coded index bit size) = (bit < 2 ^ 62) × (size < 2 ^ 32)
-SoundHeader (RefusedHeader status bit) = Unit {0}
-
--- The number that a refused run carries.
-abbrev pub progress_status : Progress → ℕ
-progress_status (At bit) = 0
-progress_status (Refused status bit) = status
+SoundHeader (Refused status bit) = Unit {0}

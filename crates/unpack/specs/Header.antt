@@ -1,10 +1,26 @@
 -- Document 01, "One subband": its header. Bits are counted from the start of the bytes.
-use Rattle.std.specs.Prelude.{ℕ, ◌+◌, ◌*◌, ◌/◌, false, cond, List, eqb, length}
-use Rattle.exp_golomb.specs.Codes.{status_of, next_of, unsigned}
-use Rattle.exp_golomb.specs.declared.codes.Number.{Number}
-use Rattle.exp_golomb.specs.declared.codes.Number.TheVariants.{Read, Missing, TooLong}
-use Rattle.unpack.specs.declared.header.Header.{Header}
-use Rattle.unpack.specs.declared.header.Header.TheVariants.{Skipped, Coded, Refused}
+use Rattle.std.specs.Prelude.{ℕ, ◌+◌, ◌*◌, ◌/◌, false, cond, List, Result, Ok, Err, eqb, length}
+use Rattle.base.specs.Refusals.{number_of}
+use Rattle.base.specs.declared.status.Fault.{Fault}
+use Rattle.exp_golomb.specs.Codes.{Number, Read, Missing, TooLong, status_of, next_of, unsigned}
+use Rattle.unpack.specs.declared.header.ReadHeader.{ReadHeader}
+use Rattle.unpack.specs.declared.header.ReadHeader.TheVariants.{Skipped as ReadSkipped, Coded as ReadCoded}
+
+-- What a header says: there are no data, and reading goes on at a bit; the data's quantiser index, the bit at which they start, and their
+-- length in bytes; or no header, with a refusal's number and the bit at which it arose.
+pub data Header : Type 0 where
+  Skipped : (bit : ℕ) → Header
+  Coded : (index bit size : ℕ) → Header
+  Refused : (status bit : ℕ) → Header
+
+-- The same, from what the code says: a header that was read, or the fault.
+abbrev pub read_as : ReadHeader → Header
+read_as (ReadSkipped bit) = Skipped bit
+read_as (ReadCoded index bit size) = Coded index bit size
+
+abbrev pub header_of : Result ReadHeader Fault → Header
+header_of (Ok header) = read_as header
+header_of (Err fault) = Refused (number_of fault.refusal) fault.bit
 
 -- "go to the boundary": the first bit of a byte, at a bit or after it. "Skipped bits may have any value": none is looked at.
 unfoldable pub boundary : ℕ → ℕ

@@ -6,9 +6,7 @@ use Rattle.component.specs.Subbands.{subband_count}
 use Rattle.component.specs.declared.parameters.Parameters.{Parameters}
 use Rattle.component.specs.declared.parameters.Answer.{Answer}
 use Rattle.component.specs.declared.parameters.Job.TheVariants.{Unpack}
-use Rattle.coefficients.specs.Reading.{goes_on}
-use Rattle.coefficients.specs.declared.reading.Progress.{Progress}
-use Rattle.coefficients.specs.declared.reading.Progress.TheVariants.{At, Refused}
+use Rattle.coefficients.specs.Reading.{Progress, At, Refused, goes_on}
 use Rattle.unpack.specs.Subband.{subband}
 
 -- What a call of unpack gives: its answer, and what the coefficient plane holds after it.

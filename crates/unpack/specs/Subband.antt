@@ -10,9 +10,7 @@ use Rattle.coefficients.specs.Reading.{Run, goes_on, stops, going}
 use Rattle.codeblocks.specs.Codeblocks.{codeblocks}
 use Rattle.codeblocks.specs.declared.CodeblockGrid.{CodeblockGrid}
 use Rattle.prediction.specs.Prediction.{prediction}
-use Rattle.unpack.specs.Header.{header_at}
-use Rattle.unpack.specs.declared.header.Header.{Header}
-use Rattle.unpack.specs.declared.header.Header.TheVariants.{Skipped, Coded, Refused}
+use Rattle.unpack.specs.Header.{Header, Skipped, Coded, Refused, header_at}
 
 -- "The next subband starts where the length ends, however few bits were used."
 unfoldable pub goes_on_at : ℕ → Run → Run

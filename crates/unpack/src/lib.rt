@@ -5,106 +5,83 @@ pub mod data;
 pub mod header;
 
 ghost use Rattle.std.specs.Prelude.{◌≡◌, ◌<◌, ◌^◌, length};
+ghost use Rattle.component.specs.Answers.{answer_of};
 ghost use Rattle.component.specs.Checks.{area_of};
 ghost use Rattle.component.specs.Subbands.{subband_count};
-ghost use Rattle.lookups.specs.Lookups.{KnowsCodes};
 ghost use Rattle.coefficients.specs.Reading.{goes_on};
 ghost use Rattle.coefficients.specs.Values.{after};
 ghost use Rattle.unpack.specs.Subband.{codeblocks_of, subband};
 ghost use Rattle.unpack.specs.Job.{outcome, subbands_from, unpacked};
-ghost use Rattle.unpack.specs.Bounds.{Checked, ClearBand, ClearBandsFrom, progress_status};
+ghost use Rattle.unpack.specs.Bounds.{ClearBand, ClearBandsFrom};
 
-use crate::data::{codeblocks_of, predict_band, read_headed};
+use crate::data::{Reader, predict_band};
 use crate::header::read_header;
 use base::plane::zero;
-use base::status::ACCEPTED;
-use coefficients::reading::Progress;
-use component::checks::refusal;
-use component::parameters::{Answer, Job, Lengths, Parameters};
+use base::status::Fault;
+use component::checks::check;
+use component::parameters::{Job, Lengths, Parameters, Refused};
 use component::subbands::subband_count;
-use lookups::lookup_table;
+use lookups::CodeTable;
 
-// Reads the coefficients of a component from its bytes. Refusals 1, 2, 4 and 5 leave the plane as it was; 6 to 9 leave zeros, with the
-// subband as their place; the place of an acceptance is the number of bytes used.
-pub fn unpack(p: Parameters, bytes: &[u8], coefficients: &mut [i32]) -> Answer
-    ensures { outcome result coefficients.new ≡ unpacked p bytes.now coefficients.old }
+// Reads the coefficients of a component from its bytes, and answers the number of bytes used. Refusals 1, 2, 4 and 5 leave the plane as it was;
+// 6 to 9 leave zeros, with the subband as their place.
+pub fn unpack(p: Parameters, bytes: &[u8], coefficients: &mut [i32]) -> Result<usize, Refused>
+    ensures { outcome (answer_of result) coefficients.new ≡ unpacked p bytes.now coefficients.old }
 {
     let lengths = Lengths {
         coefficients: coefficients.len(),
         work: 0,
         samples: 0,
     };
-    let status = refusal(Job::Unpack, p, lengths);
-    if status != ACCEPTED {
-        return Answer { status, place: 0 };
-    }
+    check(Job::Unpack, p, lengths)?;
     zero(coefficients);
-    read_subbands(p, bytes, coefficients)
-}
-
-// Reads the subbands in stream order into a plane of zeros.
-fn read_subbands(p: Parameters, bytes: &[u8], plane: &mut [i32]) -> Answer
-    requires { Checked p × (length plane.old ≡ area_of p) × ClearBandsFrom p 0 plane.old }
-    ensures { outcome result plane.new ≡ subbands_from p bytes.now (subband_count p.depth) 0 0 plane.old }
-{
-    let table = lookup_table();
-    let count = subband_count(p.depth as usize);
-    let mut k = 0;
-    // Called in two places, `read_subband` is not inlined, which leaves its loops more registers.
-    let mut progress = read_subband(plane, p, 0, bytes, 0, &table);
-    loop {
-        let Progress::At { bit } = progress else {
-            zero(plane);
-            return Answer {
-                status: progress_status(progress),
-                place: k,
-            };
-        };
-        k += 1;
-        if k == count {
-            return Answer {
-                status: ACCEPTED,
-                place: bit / 8,
-            };
-        }
-        progress = read_subband(plane, p, k, bytes, bit, &table);
-    }
-}
-
-// Reads subband k from a bit on, into zeros: its header, its data, and its prediction where the rules say so. Goes on at the bit after it.
-fn read_subband(
-    plane: &mut [i32],
-    p: Parameters,
-    k: usize,
-    bytes: &[u8],
-    at: usize,
-    table: &[u16; 256],
-) -> Progress
-    requires { Checked p × (k < subband_count p.depth) × (length plane.old ≡ area_of p)
-        × ClearBand (codeblocks_of p k) plane.old × (at < 2 ^ 61) × KnowsCodes table.now }
-    ensures { after result plane.new ≡ subband p bytes.now k (goes_on at plane.old) }
-{
-    let blocks = codeblocks_of(p, k);
-    let header = read_header(bytes, at);
-    let progress = read_headed(plane, blocks, p.intra, header, bytes, table);
-    let Progress::At { bit } = progress else {
-        return progress;
+    let table = CodeTable::new();
+    let reader = Reader {
+        p,
+        bytes,
+        table: &table,
     };
-    if k != 0 {
-        return progress;
-    }
-    if !p.intra {
-        return progress;
-    }
-    predict_band(plane, blocks, bit)
+    reader.read_subbands(coefficients)
 }
 
-// The number of a refusal, or 0.
-fn progress_status(progress: Progress) -> u32
-    ensures { result ≡ progress_status progress }
-{
-    match progress {
-        Progress::At { bit: _ } => ACCEPTED,
-        Progress::Refused { status, bit: _ } => status,
+impl Reader<'_> {
+    // Reads the subbands in stream order into a plane of zeros. Where one is refused, all are zeros again.
+    fn read_subbands(self, plane: &mut [i32]) -> Result<usize, Refused>
+        requires { (length plane.old ≡ area_of self.p) × ClearBandsFrom self.p 0 plane.old }
+        ensures { outcome (answer_of result) plane.new
+            ≡ subbands_from self.entry.p self.entry.bytes.now (subband_count self.entry.p.depth) 0 0 plane.old }
+    {
+        let count = subband_count(self.p.depth as usize);
+        let mut at = 0;
+        for k in 0..count {
+            match self.read_subband(plane, k, at) {
+                Ok(bit) => at = bit,
+                Err(fault) => {
+                    zero(plane);
+                    return Err(Refused {
+                        refusal: fault.refusal,
+                        place: k,
+                    });
+                }
+            }
+        }
+        Ok(at / 8)
+    }
+
+    // Reads subband k from a bit on, into zeros: its header, its data, and its prediction where the rules say so. Goes on at the bit after it.
+    // It is not inlined, which leaves its loops more registers.
+    #[inline(never)]
+    fn read_subband(self, plane: &mut [i32], k: usize, at: usize) -> Result<usize, Fault>
+        requires { (k < subband_count self.p.depth) × (length plane.old ≡ area_of self.p)
+            × ClearBand (codeblocks_of self.p k) plane.old × (at < 2 ^ 61) }
+        ensures { after result plane.new ≡ subband self.entry.p self.entry.bytes.now k (goes_on at plane.old) }
+    {
+        let blocks = self.codeblocks_of(k);
+        let header = read_header(self.bytes, at)?;
+        let bit = self.read_headed(plane, blocks, header)?;
+        if k != 0 || !self.p.intra {
+            return Ok(bit);
+        }
+        predict_band(plane, blocks, bit)
     }
 }

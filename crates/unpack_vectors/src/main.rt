@@ -7,21 +7,29 @@ mod output;
 
 ghost use Rattle.std.specs.Prelude.{◌≤◌, length};
 
-use crate::input::{byte_count, parameters_of, plane_length};
+use crate::input::{HEADER_SIZE, byte_count, parameters_of, plane_length};
 use crate::output::print_answer;
-use component::parameters::Parameters;
+use component::parameters::{Answer, Parameters};
 use std::io;
 use std::io::Read;
-use vector_io::{bad_input, fill_plane, print_row, read_full};
+use text::read_full;
+use vector_io::{bad_input, print_row};
 
-// Runs the jobs of the input. A proved loop has to end, so this one counts its turns down, from a number that no run uses up.
+// Room for the longest data of a job.
+const BYTES_MOST: usize = 16384;
+
+// Room for the largest plane of a job.
+const PLANE_MOST: usize = 4096;
+
+// Runs the jobs of the input. A proved loop has to end, so this one takes at most a number of turns that no run uses up.
 fn main(rt: HostRuntime) -> io::Result<()> {
     let mut input = rt.stdin();
-    let mut bytes = [0u8; 16384];
-    let mut plane = [0i32; 4096];
-    let mut turns = u64::MAX;
-    while turns > 0 && run_next(&rt, &mut input, &mut bytes, &mut plane)? {
-        turns -= 1;
+    let mut bytes = [0u8; BYTES_MOST];
+    let mut plane = [0i32; PLANE_MOST];
+    for _ in 0..u64::MAX {
+        if !run_next(&rt, &mut input, &mut bytes, &mut plane)? {
+            break;
+        }
     }
     Ok(())
 }
@@ -30,15 +38,15 @@ fn main(rt: HostRuntime) -> io::Result<()> {
 fn run_next(
     rt: &impl Print,
     input: &mut impl Read,
-    bytes: &mut [u8; 16384],
-    plane: &mut [i32; 4096],
+    bytes: &mut [u8; BYTES_MOST],
+    plane: &mut [i32; PLANE_MOST],
 ) -> io::Result<bool> {
-    let mut header = [0u8; 21];
+    let mut header = [0u8; HEADER_SIZE];
     let got = read_full(input, &mut header)?;
     if got == 0 {
         return Ok(false);
     }
-    if got < 21 {
+    if got < HEADER_SIZE {
         return bad_input(rt);
     }
     let count = byte_count(&header);
@@ -66,10 +74,7 @@ fn run_job(
 ) -> io::Result<bool>
     requires { (16384 ≤ length bytes.old) × (4096 ≤ length plane.old) }
 {
-    if count > 16384 {
-        return bad_input(rt);
-    }
-    if entries > 4096 {
+    if count > BYTES_MOST || entries > PLANE_MOST {
         return bad_input(rt);
     }
     if read_full(input, &mut bytes[..count])? < count {
@@ -88,8 +93,8 @@ fn unpack_and_print(
 ) -> io::Result<()>
     requires { length plane.old ≤ 4096 }
 {
-    fill_plane(plane, 7);
-    let answer = unpack::unpack(p, bytes, plane);
-    print_answer(rt, p, bytes.len(), answer)?;
+    plane.fill(7);
+    let unpacked = unpack::unpack(p, bytes, plane);
+    print_answer(rt, p, bytes.len(), Answer::from(unpacked))?;
     print_row(&mut io::writer(rt), plane)
 }

@@ -1,7 +1,8 @@
 // The line that says what a job was, with its answer.
 use component::parameters::{Answer, Parameters};
 use std::io;
-use vector_io::{end_line, put_answer, put_job, put_named};
+use text::TextBuffer;
+use vector_io::{LINE_ROOM, put_answer, put_job, put_named};
 
 // Writes the line of a job and its answer.
 pub(crate) fn print_answer(
@@ -10,11 +11,11 @@ pub(crate) fn print_answer(
     bytes: usize,
     answer: Answer,
 ) -> io::Result<()> {
-    let mut line = [0u8; 4096];
-    let job = put_job(&mut line, 0, p);
-    let intra = put_named(&mut line, job, b" intra ", p.intra as u64);
-    let data = put_named(&mut line, intra, b" bytes ", bytes as u64);
-    let place = put_answer(&mut line, data, answer);
-    let end = end_line(&mut line, place);
-    rt.write_all(&line[..end])
+    let mut line = TextBuffer::<LINE_ROOM>::new();
+    put_job(&mut line, p);
+    put_named(&mut line, b" intra ", u64::from(p.intra));
+    put_named(&mut line, b" bytes ", bytes as u64);
+    put_answer(&mut line, answer);
+    line.put_word(b"\n");
+    rt.write_all(line.as_bytes())
 }

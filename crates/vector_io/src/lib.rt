@@ -1,35 +1,27 @@
-// What the programs that run stored vectors share: reading the input and its numbers, pieces of the lines of the output, and planes that hold
-// something before a call.
+// What the programs that run stored vectors share: numbers of the input, and pieces of the lines of the output.
 #![tactic(auto)]
 
-ghost use Rattle.std.specs.Prelude.{◌≡◌, false, ◌+◌, ◌*◌, ◌≤◌, ◌<◌, length, IfOk, OnOk};
+ghost use Rattle.std.specs.Prelude.{◌≡◌, false, ◌+◌, ◌*◌, ◌++◌, ◌≤◌, ◌<◌, length, IfOk, OnOk};
 ghost use Rattle.std.specs.Io.KnownBytes.{Appends};
-ghost use Rattle.base.specs.Fill.{fill};
-ghost use Rattle.io.specs.Counts.{IsPrefixLen};
-ghost use Rattle.text.specs.Put.{Put};
-ghost use Rattle.text.specs.Text.{ascii, row_text};
+ghost use Rattle.text.specs.Text.{row_text};
 ghost use Rattle.vector_io.specs.Lines.{named, job_text, answer_text};
 
 use component::parameters::{Answer, Parameters};
-use std::io::{Read, Write};
-use text::{put_decimal, put_row, put_word};
+use std::io::Write;
+use text::TextBuffer;
+
+// Room for a line that says what a job is and what it answers.
+pub const LINE_ROOM: usize = 4096;
+
+// Room for a row of at most 4,096 numbers as a line.
+pub const ROW_ROOM: usize = 65536;
 
 // The number of two bytes, the high one first.
+// As in contents::bytes, which reads a recording and is not asked here; each is one call of the library.
 pub fn two_bytes(high: u8, low: u8) -> u32
     ensures { (result ≡ high * 256 + low) × (result < 65536) }
 {
-    (high as u32) * 256 + (low as u32)
-}
-
-// Puts one number into the whole plane.
-pub fn fill_plane(plane: &mut [i32], number: i32)
-    ensures { plane.new ≡ fill plane.old 0 (length plane.old) (λ _. number) }
-{
-    let mut i = 0;
-    while i < plane.len() {
-        plane[i] = number;
-        i += 1;
-    }
+    u32::from(u16::from_be_bytes([high, low]))
 }
 
 // Says that the input is bad, and answers that there is no other job.
@@ -40,69 +32,38 @@ pub fn bad_input(rt: &impl Print) -> std::io::Result<bool>
     Ok(false)
 }
 
-// Reads until the bytes are full or the input ends, and answers how many were read.
-pub fn read_full(input: &mut impl Read, bytes: &mut [u8]) -> std::io::Result<usize>
-    ensures { IfOk result (λ count. IsPrefixLen count bytes.new) }
+// Puts a name and its number.
+pub fn put_named<const N: usize>(text: &mut TextBuffer<N>, name: &[u8], number: u64)
+    requires { length text.old + length name.now + 20 ≤ N }
+    ensures put { text.new ≡ text.old ++ named name.now number }
+    ensures upper_bound { length text.new ≤ length text.old + length name.now + 20 }
 {
-    let mut count = 0;
-    while count < bytes.len() {
-        let more = input.read(&mut bytes[count..])?;
-        if more == 0 {
-            return Ok(count);
-        }
-        count += more;
-    }
-    Ok(count)
-}
-
-// Puts a name and its number. As in `text`, a piece is put from an index on, and the answer is the index after it.
-pub fn put_named(text: &mut [u8], at: usize, name: &[u8], number: u64) -> usize
-    requires { at + length name.now + 20 ≤ length text.old }
-    ensures put { Put at text.old (named name.now number) result text.new }
-    ensures upper_bound { result ≤ at + length name.now + 20 }
-{
-    let after = put_word(text, at, name);
-    put_decimal(text, after, number)
+    text.put_word(name);
+    text.put_decimal(number);
 }
 
 // Puts what a job is.
-pub fn put_job(text: &mut [u8], at: usize, p: Parameters) -> usize
-    requires { at + 97 ≤ length text.old }
-    ensures put { Put at text.old (job_text p) result text.new }
-    ensures upper_bound { result ≤ at + 97 }
+#[tactic(auto, unfolding(crate::specs::Lines::job_text, text::specs::Text::ascii))]
+pub fn put_job<const N: usize>(text: &mut TextBuffer<N>, p: Parameters)
+    requires { length text.old + 97 ≤ N }
+    ensures put { text.new ≡ text.old ++ job_text p }
+    ensures upper_bound { length text.new ≤ length text.old + 97 }
 {
-    let width = put_decimal(text, at, p.width as u64);
-    let height = put_named(text, width, b"x", p.height as u64);
-    let depth = put_named(text, height, b" depth ", p.depth as u64);
-    put_named(text, depth, b" wavelet ", p.wavelet as u64)
+    text.put_decimal(u64::from(p.width));
+    put_named(text, b"x", u64::from(p.height));
+    put_named(text, b" depth ", u64::from(p.depth));
+    put_named(text, b" wavelet ", u64::from(p.wavelet));
 }
 
 // Puts what a job answers.
-pub fn put_answer(text: &mut [u8], at: usize, answer: Answer) -> usize
-    requires { at + 56 ≤ length text.old }
-    ensures put { Put at text.old (answer_text answer) result text.new }
-    ensures upper_bound { result ≤ at + 56 }
+#[tactic(auto, unfolding(crate::specs::Lines::answer_text, text::specs::Text::ascii))]
+pub fn put_answer<const N: usize>(text: &mut TextBuffer<N>, answer: Answer)
+    requires { length text.old + 56 ≤ N }
+    ensures put { text.new ≡ text.old ++ answer_text answer }
+    ensures upper_bound { length text.new ≤ length text.old + 56 }
 {
-    let status = put_named(text, at, b": status ", answer.status as u64);
-    put_named(text, status, b" place ", answer.place as u64)
-}
-
-// Ends a line, and so answers how long it is.
-pub fn end_line(line: &mut [u8; 4096], at: usize) -> usize
-    requires { at < 4096 }
-    ensures put { Put at line.old (ascii "\n") result line.new }
-    ensures prefix_len { IsPrefixLen result line.new }
-{
-    put_word(line, at, b"\n")
-}
-
-// Ends a line with a row of numbers, and so answers how long it is.
-pub fn end_with_row(line: &mut [u8; 65536], at: usize, row: &[i32]) -> usize
-    requires { at + 12 * length row.now + 21 ≤ 65536 }
-    ensures put { Put at line.old (row_text row.now) result line.new }
-    ensures prefix_len { IsPrefixLen result line.new }
-{
-    put_row(line, at, row)
+    put_named(text, b": status ", u64::from(answer.status));
+    put_named(text, b" place ", answer.place as u64);
 }
 
 // Writes a row as a line.
@@ -110,7 +71,7 @@ pub fn print_row<W: Write>(to: &mut W, row: &[i32]) -> std::io::Result<()>
     requires { length row.now ≤ 4096 }
     ensures { OnOk result (Appends (W.contents to.old) (W.contents to.new) (row_text row.now)) }
 {
-    let mut line = [0u8; 65536];
-    let end = end_with_row(&mut line, 0, row);
-    to.write_all(&line[..end])
+    let mut line = TextBuffer::<ROW_ROOM>::new();
+    line.put_row(row);
+    to.write_all(line.as_bytes())
 }

@@ -3,9 +3,7 @@
 use Rattle.std.specs.Prelude.{ℕ, ◌-◌, ◌*◌, ◌^◌, true, false, cond, List, [], ◌∷◌, map, eqb, ℤ, pos, neg_ℤ, length}
 use Rattle.base.specs.Lists.{tabulate}
 use Rattle.base.specs.Sign.{with_sign}
-use Rattle.exp_golomb.specs.Codes.{unsigned, signed}
-use Rattle.exp_golomb.specs.declared.codes.Number.{Number}
-use Rattle.exp_golomb.specs.declared.codes.Number.TheVariants.{Read, Missing, TooLong}
+use Rattle.exp_golomb.specs.Codes.{Number, Read, Missing, TooLong, unsigned, signed}
 use Rattle.filters.specs.Filters.{filter_of}
 use Rattle.filters.specs.Passes.{Pass, rows, halve, run_all}
 use Rattle.filters.specs.Planes.{picture_of, raster}

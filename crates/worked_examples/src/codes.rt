@@ -1,9 +1,10 @@
 // "31 and 32 data bits", by the reader of number codes itself.
 ghost use Rattle.std.specs.Prelude.{◌+◌, ◌≤◌, length};
 
-use exp_golomb::codes::{Number, read_unsigned, status};
+use exp_golomb::codes::read_unsigned;
 use std::io;
-use vector_io::{end_line, put_named};
+use text::TextBuffer;
+use vector_io::{LINE_ROOM, put_named};
 
 // Reads codes of 31 data bits, of 32, and of 31 with nothing after them.
 pub(crate) fn read_longest_codes(rt: &impl Print) -> io::Result<()> {
@@ -53,29 +54,24 @@ fn read_and_print(
     stated: bool,
 ) -> io::Result<()> {
     let number = read_unsigned(bytes, end, stated, 0);
-    let mut line = [0u8; 4096];
-    let after = put_named(&mut line, 0, b": status ", status(number) as u64);
-    let last = put_next(&mut line, after, number);
-    let count = end_line(&mut line, last);
+    let mut line = TextBuffer::<LINE_ROOM>::new();
+    match number {
+        Ok(read) => {
+            put_end(&mut line, 0, read.next);
+            put_named(&mut line, b": ", u64::from(read.size));
+        }
+        Err(fault) => put_end(&mut line, fault.refusal.number(), fault.bit),
+    }
+    line.put_word(b"\n");
     rt.write_all(case)?;
-    rt.write_all(&line[..count])
+    rt.write_all(line.as_bytes())
 }
 
-// Puts the bit after those taken, and the number that was read.
-fn put_next(text: &mut [u8], at: usize, number: Number) -> usize
-    requires { at + 52 ≤ length text.old }
-    ensures { result ≤ at + 52 }
+// Puts the status of a number, and the bit after those taken.
+fn put_end(text: &mut TextBuffer<LINE_ROOM>, status: u32, next: usize)
+    requires { length text.old + 60 ≤ 4096 }
+    ensures { length text.new ≤ length text.old + 60 }
 {
-    match number {
-        Number::Read {
-            size,
-            minus: _,
-            next,
-        } => {
-            let after = put_named(text, at, b" next bit ", next as u64);
-            put_named(text, after, b": ", size as u64)
-        }
-        Number::Missing { next } => put_named(text, at, b" next bit ", next as u64),
-        Number::TooLong { next } => put_named(text, at, b" next bit ", next as u64),
-    }
+    put_named(text, b": status ", u64::from(status));
+    put_named(text, b" next bit ", next as u64);
 }

@@ -3,8 +3,8 @@ ghost use Rattle.std.specs.Prelude.{◌≤◌, length};
 
 use component::parameters::Answer;
 use std::io;
-use text::put_word;
-use vector_io::{end_with_row, put_answer};
+use text::TextBuffer;
+use vector_io::{LINE_ROOM, print_row, put_answer};
 
 // Writes the line of a job's case: what it is, the answer, and the plane after it.
 pub(crate) fn print_case(
@@ -15,20 +15,18 @@ pub(crate) fn print_case(
 ) -> io::Result<()>
     requires { length plane.now ≤ 16 }
 {
-    let mut line = [0u8; 65536];
-    let place = put_answer(&mut line, 0, answer);
-    let colon = put_word(&mut line, place, b": ");
-    let end = end_with_row(&mut line, colon, plane);
+    let mut line = TextBuffer::<LINE_ROOM>::new();
+    put_answer(&mut line, answer);
+    line.put_word(b": ");
+    line.put_row(plane);
     rt.write_all(case)?;
-    rt.write_all(&line[..end])
+    rt.write_all(line.as_bytes())
 }
 
 // Writes the line of a plane that follows a case: whose it is, and the plane.
 pub(crate) fn print_plane(rt: &impl Print, name: &[u8], plane: &[i32]) -> io::Result<()>
     requires { length plane.now ≤ 16 }
 {
-    let mut line = [0u8; 65536];
-    let end = end_with_row(&mut line, 0, plane);
     rt.write_all(name)?;
-    rt.write_all(&line[..end])
+    print_row(&mut io::writer(rt), plane)
 }

@@ -2,7 +2,7 @@
 ghost use Rattle.std.specs.Prelude.{◌≤◌, length};
 
 use crate::output::print_case;
-use component::parameters::Parameters;
+use component::parameters::{Answer, Parameters};
 use std::io;
 
 // Synthesises pictures whose numbers come to the greatest, and one beyond it.
@@ -88,6 +88,6 @@ fn synthesise_and_print(
 ) -> io::Result<()>
     requires { length samples.old ≤ 16 }
 {
-    let answer = transform::synthesise(p, coefficients, work, samples);
-    print_case(rt, case, answer, samples)
+    let synthesised = transform::synthesise(p, coefficients, work, samples);
+    print_case(rt, case, Answer::from(synthesised), samples)
 }

@@ -2,6 +2,7 @@
 ghost use Rattle.std.specs.Prelude.{◌≤◌, length};
 
 use crate::output::{print_case, print_plane};
+use component::parameters::Answer;
 use low_delay::parameters::LowDelay;
 use low_delay::unpack_low_delay;
 use slices::parameters::Picture;
@@ -83,8 +84,8 @@ fn unpack_planes(
 ) -> io::Result<()>
     requires { (length luma.old ≤ 16) × (length first.old ≤ 16) × (length second.old ≤ 16) }
 {
-    let answer = unpack_low_delay(p, bytes, luma, first, second);
-    print_case(rt, case, answer, luma)?;
+    let unpacked = unpack_low_delay(p, bytes, luma, first, second);
+    print_case(rt, case, Answer::from(unpacked), luma)?;
     print_plane(rt, b"C1: ", first)?;
     print_plane(rt, b"C2: ", second)
 }

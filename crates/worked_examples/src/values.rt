@@ -2,7 +2,7 @@
 ghost use Rattle.std.specs.Prelude.{◌≤◌, length};
 
 use crate::output::print_case;
-use component::parameters::Parameters;
+use component::parameters::{Answer, Parameters};
 use std::io;
 
 // Unpacks values at quantiser indices 115 and 116.
@@ -169,6 +169,6 @@ fn unpack_and_print(
 ) -> io::Result<()>
     requires { length plane.old ≤ 16 }
 {
-    let answer = unpack::unpack(p, bytes, plane);
-    print_case(rt, case, answer, plane)
+    let unpacked = unpack::unpack(p, bytes, plane);
+    print_case(rt, case, Answer::from(unpacked), plane)
 }

@@ -27,7 +27,6 @@ pub read_run-part-requires : goal.read_run-part-requires
 read_run-part-requires c = (
   run-ready _ _ _ c.layout_of-layout.ensures _ (inside-same c.loop-i.invariant.1.same_length c.requires.0) c.loop-i.invariant.1.clear,
   rw c.loop-i.invariant.0 (moved-sound _ _ (c.loop-i.invariant.1.before_end _ refl) c.requires.2),
-  c.requires.3,
 )
 
 pub overflow_add-i : goal.overflow_add-i
@@ -37,13 +36,13 @@ overflow_add-i c =
 -- what the run read, of the data that the cursor has
 reads-run : (c : After-struct_known-in-loop-i-1) →
     let args = c.args in
-    Reads args.bytes.now (moved args.cursor c.loop-i.next.bit) (scale_of args.q) (index_of c.layout_of-layout.result) c.loop-i.i c.loop-i.plane c.read_run-part.result c.read_run-part.new.plane
+    Reads args.bytes.now (moved args.cursor c.loop-i.next.bit) (scale_of args.decoder.q) (index_of c.layout_of-layout.result) c.loop-i.i c.loop-i.plane c.read_run-part.result c.read_run-part.new.plane
 reads-run c = rw c.loop-i.invariant.0 at c.read_run-part.ensures.read
 
 -- so the run is a step
 step : (c : After-struct_known-in-loop-i-1) →
     let args = c.args in
-    SoFar args.bytes.now args.cursor (scale_of args.q) args.area args.from args.plane.now c.read_run-part.result.progress (c.loop-i.i + c.read_run-part.result.count) c.read_run-part.new.plane
+    SoFar args.bytes.now args.cursor (scale_of args.decoder.q) args.area args.from args.plane.now c.read_run-part.result.progress (c.loop-i.i + c.read_run-part.result.count) c.read_run-part.new.plane
 step c =
     so-far-on c.args.area c.loop-i.i _ c.layout_of-layout.ensures _ _ _ _ _ _ _ (reads-run c) c.read_run-part.ensures.some.0 _ _ c.requires.0.wide c.loop-i.invariant.1 c.read_run-part.auto.plane
 
@@ -51,7 +50,7 @@ pub shape_of-plane-in_default : goal.shape_of-plane-in_default
 shape_of-plane-in_default c = (step (goal.at.shape_of-plane-in_default c).After-struct_known-in-loop-i-1).same_length
 
 pub returns-in_default : goal.returns-in_default
-returns-in_default c = reads_over _ _ _ _ _ _ _ _ _ (step (goal.at.returns-in_default c).After-struct_known-in-loop-i-1) (λ next e. refused-never _ _ _ _ c.in_default.is e)
+returns-in_default c = reads_over _ _ _ _ _ _ _ _ _ (step (goal.at.returns-in_default c).After-struct_known-in-loop-i-1) (λ next e. refused-never _ _ _ c.in_default.is e)
 
 pub shape_of-plane-then-part : goal.shape_of-plane-then-part
 shape_of-plane-then-part c = (step (goal.at.shape_of-plane-then-part c).After-struct_known-in-loop-i-1).same_length
@@ -59,17 +58,17 @@ shape_of-plane-then-part c = (step (goal.at.shape_of-plane-then-part c).After-st
 pub returns-then-part : goal.returns-then-part
 returns-then-part c =
     let read = reads-run (goal.at.returns-then-part c).After-struct_known-in-loop-i-1 in
-    rw (← c.in-At.is) (reads_short _ _ _ _ _ _ _ _ _ (step (goal.at.returns-then-part c).After-struct_known-in-loop-i-1) (read.close_to_end c.if-part.true) (λ e. sym c.if-part.true ∙ read.full e))
+    reads_short _ _ _ _ _ _ _ _ _ (step (goal.at.returns-then-part c).After-struct_known-in-loop-i-1) (read.close_to_end c.if-part.true) (λ e. sym c.if-part.true ∙ read.full e)
 
 pub loop-i-smaller : goal.loop-i-smaller
 loop-i-smaller c =
     let covers = c.layout_of-layout.ensures in
-    omega (arith, c.read_run-part.ensures.some.1 _ c.in-At.is c.if-part.false, covers.some)
+    omega (arith, c.read_run-part.ensures.some.1 _ c.in-Ok.is c.if-part.false, covers.some)
 
 pub loop-i-preserved : goal.loop-i-preserved
 loop-i-preserved c =
-    let bit = c.in-At.bit in
-    (ap (λ (n : Cursor). moved n bit) c.loop-i.invariant.0, rw c.in-At.is at (step (goal.at.loop-i-preserved c).After-struct_known-in-loop-i-1))
+    let bit = c.in-Ok.bit in
+    (ap (λ (n : Cursor). moved n bit) c.loop-i.invariant.0, rw c.in-Ok.is at (step (goal.at.loop-i-preserved c).After-struct_known-in-loop-i-1))
 
 pub shape_of-plane : goal.shape_of-plane
 shape_of-plane c = c.loop-i.invariant.1.same_length

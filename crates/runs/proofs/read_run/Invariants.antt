@@ -2,14 +2,13 @@
 -- end it.
 use mathlib.Core.Path.{◌≡◌}
 use Prim.Native.Nat.{◌-◌, ◌≤◌}
-use lib.ListN.{length}
 use Rattle.coefficients.specs.Reading.{goes_on}
 use Rattle.coefficients.specs.Scaling.{scale_of}
 use Rattle.runs.proofs.RunsLaws.{up_to}
 use Rattle.runs.proofs.read_run.Given as goal
 
 abbrev pub invariant-loop-i : goal.invariant-loop-i
-invariant-loop-i l = (l.i ≤ l.n) × (length l.run ≡ length l.initial.run) × (l.bit ≤ l.span.end) × (up_to l.bytes l.span.end l.span.origin (scale_of l.q) l.span.bit l.initial.run l.i ≡ goes_on l.bit l.run)
+invariant-loop-i l = (l.i ≤ l.n) × (l.bit ≤ l.fn.span.end) × (up_to l.bytes l.fn.span.end l.fn.span.origin (scale_of l.decoder.q) l.fn.span.bit l.initial.run l.i ≡ goes_on l.bit l.run)
 
 abbrev pub decreases-loop-i : goal.decreases-loop-i
 decreases-loop-i l = l.n - l.i

@@ -14,4 +14,4 @@ padded_area-requires c =
 pub returns-then-area_within : goal.returns-then-area_within
 returns-then-area_within c =
     let small : area_within c.args.p 65536 ≡ true = sym c.area_within.ensures ∙ c.if-area_within.true in
-    rw c.padded_area.ensures (within-area _ _ small, λ some. (width-least _ (within-sizes _ _ small), width_most _ (within-sizes _ _ small), samples-fewer _))
+    rw c.padded_area.ensures (within-area _ _ small, width-least _ (within-sizes _ _ small), width_most _ (within-sizes _ _ small), samples-fewer _)

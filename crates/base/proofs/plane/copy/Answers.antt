@@ -1,29 +1,15 @@
-use mathlib.Core.Path.{◌≡◌, refl, sym, ◌∙◌}
+-- `base::plane::copy` meets its contract: the part is overwritten whole, with the source's part.
+use mathlib.Core.Path.{◌∙◌}
 use Prim.Native.Nat.{◌+◌}
 use native.Mathlib.Omega.{arith}
 use lib.IntN.{pos}
-use lib.ListN.{get_or, length-set}
-use mir.Syntax.{w32}
-use Rattle.base.proofs.FillLaws.{fill_none, fill_more}
-use Rattle.base.proofs.RangeLaws.{back}
+use Rattle.std.proofs.lemmas.List.Edits.{length-between, get_or-between}
+use Rattle.base.proofs.FillLaws.{fill-part}
 use Rattle.base.proofs.plane.copy.Goals as goal
-
-pub loop-x-init : goal.loop-x-init
-loop-x-init c = (omega arith, refl, sym (fill_none _ _ _))
-
-pub loop-x-preserved : goal.loop-x-preserved
-loop-x-preserved c =
-    let head = c.before.before in (
-      omega arith,
-      simp length-set head.loop-x.invariant.1,
-      rw (back w32 (get_or head.before.args.source.now (head.before.args.from + head.loop-x.x) (pos 0)) c.plane-1.given, head.loop-x.invariant.2)
-          (fill_more _ _ _ _ _ refl),
-    )
-
-pub shape_of-plane : goal.shape_of-plane
-shape_of-plane c = c.before.loop-x.invariant.1
 
 pub returns : goal.returns
 returns c =
-    let all : c.before.loop-x.x ≡ c.before.before.args.n = omega arith in
-    c.before.loop-x.invariant.2 ∙ rw all refl
+    let n = c.args.n in
+    let whole = length-between c.args.plane.now c.args.index (c.args.index + n) c.requires.0 in
+    fill-part _ _ _ (pos 0) n _ (c.copy_from_slice.ensures.len ∙ whole) c.requires.0
+    (λ k h. rw c.copy_from_slice.ensures.after (get_or-between c.args.source.now c.args.from (c.args.from + n) k (pos 0) (omega arith)))

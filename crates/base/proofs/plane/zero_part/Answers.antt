@@ -1,21 +1,16 @@
-use mathlib.Core.Path.{◌≡◌, refl, sym, ◌∙◌}
+-- `base::plane::zero_part` meets its contract: the part is overwritten whole, with zeros.
+use mathlib.Core.Path.{◌∙◌}
+use Prim.Native.Nat.{◌+◌}
 use native.Mathlib.Omega.{arith}
-use lib.ListN.{length-set}
-use Rattle.base.proofs.FillLaws.{fill_none, fill_more}
+use lib.IntN.{pos}
+use lib.ListN.{get_or-replicate}
+use Rattle.std.proofs.lemmas.List.Edits.{length-between}
+use Rattle.base.proofs.FillLaws.{fill-part}
 use Rattle.base.proofs.plane.zero_part.Goals as goal
-
-pub loop-x-init : goal.loop-x-init
-loop-x-init c = (omega arith, refl, sym (fill_none _ _ _))
-
-pub loop-x-preserved : goal.loop-x-preserved
-loop-x-preserved c =
-    let head = c.before in
-    (omega arith, simp length-set head.loop-x.invariant.1, rw head.loop-x.invariant.2 (fill_more _ _ _ _ _ refl))
-
-pub shape_of-plane : goal.shape_of-plane
-shape_of-plane c = c.before.loop-x.invariant.1
 
 pub returns : goal.returns
 returns c =
-    let all : c.before.loop-x.x ≡ c.before.before.args.n = omega arith in
-    c.before.loop-x.invariant.2 ∙ rw all refl
+    let n = c.args.n in
+    let whole = length-between c.args.plane.now c.args.index (c.args.index + n) c.requires in
+    fill-part _ _ _ (pos 0) n _ (c.fill.ensures.len ∙ whole) c.requires
+    (λ k h. rw (c.fill.ensures.after (λ y same. same)) (get_or-replicate _ k (pos 0) (pos 0) (omega (arith, whole))))

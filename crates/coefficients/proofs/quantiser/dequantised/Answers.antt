@@ -11,17 +11,9 @@ returns-then-size-eq0 c = (sym (scaled-zero _ _ _ c.if-size-eq0.true), omega ari
 
 -- the product is small
 product : (c : Start) → c.args.size * c.args.q.factor ≤ (2 ^ 32 - 1) * (2 ^ 31 - 1)
-product c = product-most c.args.size c.args.q.factor (omega arith) c.requires.factor_most
-
-pub overflow_mul-result : goal.overflow_mul-result
-overflow_mul-result c = omega (arith, product (goal.at.overflow_mul-result c).Start)
-
-pub overflow_add-result : goal.overflow_add-result
-overflow_add-result c = omega (arith, product (goal.at.overflow_add-result c).Start, c.requires.offset_most)
-
-pub overflow_add-result-2 : goal.overflow_add-result-2
-overflow_add-result-2 c = omega (arith, product (goal.at.overflow_add-result-2 c).Start, c.requires.offset_most)
+product c = product-most c.args.size c.args.q.factor (omega arith) c.args.q.factor_small
 
 pub returns : goal.returns
 returns c =
-    (sym (scaled-some _ _ _ c.if-size-eq0.false), omega (arith, product (goal.at.returns c).Start, c.requires.offset_most))
+    rw c.from.ensures
+    (sym (scaled-some _ _ _ c.if-size-eq0.false), omega (arith, product (goal.at.returns c).Start, c.args.q.offset_small))

@@ -5,10 +5,11 @@ use Rattle.coefficients.proofs.quantiser.quantiser_of.Goals as goal
 
 pub returns : goal.returns
 unfolding dequantise
-returns c = (
-  rw (c.quant_factor-factor.ensures, c.quant_offset-offset.ensures),
-  record {
-    factor_most = rw c.quant_factor-factor.ensures (factor-below c.args.index c.requires);
-    offset_most = rw c.quant_offset-offset.ensures (offset-below c.args.intra c.args.index c.requires);
-  },
-)
+returns c = rw (c.quant_factor-factor.ensures, c.quant_offset-offset.ensures)
+
+pub invariant_of-result : goal.invariant_of-result
+invariant_of-result c =
+    record {
+      factor_small = rw c.quant_factor-factor.ensures (factor-below c.args.index c.requires);
+      offset_small = rw c.quant_offset-offset.ensures (offset-below c.args.intra c.args.index c.requires);
+    }

@@ -1,6 +1,5 @@
 use mathlib.Core.Path.{◌≡◌, refl, ◌∙◌}
 use mathlib.Core.Bool.{true}
-use Prim.Native.Nat.{ℕ}
 use native.Mathlib.Omega.{arith}
 use lib.IntN.{pos}
 use lib.ListN.{length-set}
@@ -12,14 +11,6 @@ use Rattle.coefficients.specs.Scaling.{scale_of, small_fit, small_value}
 use Rattle.coefficients.proofs.ScalingLaws.{scaled-zero, small-fits}
 use Rattle.coefficients.proofs.quantiser.small_values.Goals as goal
 use Rattle.coefficients.proofs.quantiser.small_values.Goals.{After-with_sign, Else-not-small_fit}
-
-pub returns-then-not-small_fit : goal.returns-then-not-small_fit
-returns-then-not-small_fit c = λ fit.
-    let never : ◌≡◌ {A = ℕ} 0 1 = cc c.if-not-small_fit.true in
-    absurd (omega arith)
-
-pub loop-k-init : goal.loop-k-init
-loop-k-init c = (omega arith, refl, λ j h. absurd (omega arith))
 
 -- the small values fit where the loop is reached
 all_fit : (c : Else-not-small_fit) → small_fit c.args.q ≡ true

@@ -1,16 +1,9 @@
 -- `coefficients::values::not_read` meets its contract: its two answers are the definition's.
-use native.Mathlib.Omega.{arith}
 use Rattle.coefficients.proofs.PortionsLaws.{not-read-short, not-read-long}
 use Rattle.coefficients.proofs.values.not_read.Goals as goal
 
+pub returns-in-CodeTooLong : goal.returns-in-CodeTooLong
+returns-in-CodeTooLong c = λ number is. not-read-long number c.args.fault c.args.cursor is c.in-CodeTooLong.is
+
 pub returns-in_default : goal.returns-in_default
-returns-in_default c =
-    not-read-short c.args.number c.args.cursor
-    c.in_default.not-TooLong
-
-pub overflow_add-result : goal.overflow_add-result
-overflow_add-result c = omega (arith, rw c.in-TooLong.is at c.requires)
-
-pub returns : goal.returns
-returns c =
-    not-read-long c.args.number c.args.cursor _ _ c.in-TooLong.is c.status.ensures
+returns-in_default c = λ number is. not-read-short number c.args.fault c.args.cursor is c.in_default.not-CodeTooLong

@@ -4,7 +4,4 @@ use Rattle.coefficients.proofs.BatchesLaws.{Taken}
 use Rattle.coefficients.proofs.values.read_codes.Given as goal
 
 abbrev pub invariant-loop-i : goal.invariant-loop-i
-invariant-loop-i l = (l.bits ≤ 8 * (l.i - l.from)) × (l.i ≤ l.layout.count) × Taken l.window l.small l.layout l.from l.initial.plane l.w l.i l.bits l.plane
-
-abbrev pub decreases-loop-i : goal.decreases-loop-i
-decreases-loop-i l = l.layout.count - l.i
+invariant-loop-i l = (l.bits ≤ 8 * (l.i - l.from)) × (l.i ≤ l.layout.count) × Taken l.window l.decoder.small.now l.layout l.from l.initial.plane l.w l.i l.bits l.plane

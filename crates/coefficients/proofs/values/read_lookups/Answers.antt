@@ -1,110 +1,45 @@
-use Prim.Native.Nat.{◌+◌, ◌-◌, ◌≤◌, ◌<◌}
+use Prim.Native.Nat.{◌+◌, ◌-◌, ◌<◌}
 use native.Mathlib.Omega.{arith}
 use lib.IntN.{pos}
-use lib.ListN.{length, get_or}
+use lib.ListN.{get_or}
 use mir.Syntax.{w32}
 use Rattle.base.proofs.RangeLaws.{back}
 use Rattle.lookups.proofs.LookupsLaws.{lookup-count}
 use Rattle.coefficients.proofs.BatchesLaws.{taken_none, taken-lookup, taken-zeros}
 use Rattle.coefficients.proofs.values.read_lookups.Goals as goal
-use Rattle.coefficients.proofs.values.read_lookups.Goals.{After-index_at-index, At-loop-k}
 
-pub loop-k-init : goal.loop-k-init
-loop-k-init c = (omega arith, omega arith, c.requires.0.counted, taken_none _ _ _ _ _ c.requires.0)
+pub loop-init : goal.loop-init
+loop-init g c = (omega arith, omega arith, c.requires.counted, taken_none _ _ _ _ _ c.requires)
 
-pub overflow_add-to : goal.overflow_add-to
-overflow_add-to c = omega (arith, c.lookup_at-lookup.ensures.zeros_most, c.loop-k.invariant.2, c.requires.0.few)
-
-pub overflow_sub-result : goal.overflow_sub-result
-overflow_sub-result c = omega (arith, c.requires.0.counted)
-
-pub overflow_sub-result-then-layout-to : goal.overflow_sub-result-then-layout-to
-overflow_sub-result-then-layout-to c = omega (arith, c.loop-k.invariant.2)
-
-pub overflow_add-result : goal.overflow_add-result
-overflow_add-result c =
-    omega (arith, c.loop-k.invariant.0, c.loop-k.invariant.1, c.loop-k.invariant.2, c.requires.0.few)
-
-pub shape_of-plane-then-layout-to : goal.shape_of-plane-then-layout-to
-shape_of-plane-then-layout-to c = c.loop-k.invariant.3.same
-
-pub returns-then-layout-to : goal.returns-then-layout-to
-returns-then-layout-to c = (
-  omega (arith, c.requires.0.counted),
-  taken-zeros _ _ _ _ _ c.requires.0 _ _ _ _ c.lookup_at-lookup.result (omega (arith, c.loop-k.invariant.1, c.loop-k-test)) c.loop-k.invariant.3 c.lookup_at-lookup.ensures
-      (c.args.layout.count - c.loop-k.i) _ (omega (arith, c.if-layout-to.true)) (omega (arith, c.loop-k.invariant.2)) (omega (arith, c.loop-k.invariant.2)),
+pub returns-then-count-to : goal.returns-then-count-to
+returns-then-count-to g c = (
+  omega (arith, c.requires.counted),
+  taken-zeros _ _ _ _ _ c.requires _ _ _ _ c.look_up-lookup.result (omega arith) c.loop.invariant.3 c.look_up-lookup.ensures
+      (c.count-count.result - c.loop.i) _ (omega arith) (omega arith) (omega arith),
 )
 
-pub overflow_sub-result-then-lookup-eq0 : goal.overflow_sub-result-then-lookup-eq0
-overflow_sub-result-then-lookup-eq0 c = omega (arith, c.loop-k.invariant.3.started)
-
-pub shape_of-plane-then-lookup-eq0 : goal.shape_of-plane-then-lookup-eq0
-shape_of-plane-then-lookup-eq0 c = c.loop-k.invariant.3.same
-
--- the values taken so far are before the layout's end
-within : (c : At-loop-k) → c.args.from + (c.loop-k.i - c.args.from) ≤ c.args.layout.count
-within c = omega (arith, c.loop-k.invariant.2, c.loop-k.invariant.3.started)
-
 pub returns-then-lookup-eq0 : goal.returns-then-lookup-eq0
-returns-then-lookup-eq0 c =
-    (within (goal.at.returns-then-lookup-eq0 c).At-loop-k, c.loop-k.invariant.3.reads)
+returns-then-lookup-eq0 g c =
+    (omega arith, c.loop.invariant.3.reads)
 
 pub index_at-index-requires : goal.index_at-index-requires
-index_at-index-requires c =
-    let ready = c.requires.0 in
-    let below : c.loop-k.i + c.lookup_at-lookup.result.zeros < c.args.layout.count = omega (arith, c.if-layout-to.false) in
-    (omega (arith, ready.few), ready.low, omega (arith, ready.inside _ below))
-
--- the entry that is stored lies in the plane
-inside : (c : After-index_at-index) → c.index_at-index.result < length c.loop-k.plane
-inside c =
-    let below : c.loop-k.i + c.lookup_at-lookup.result.zeros < c.args.layout.count = omega (arith, c.if-layout-to.false) in
-    rw (c.index_at-index.ensures, c.loop-k.invariant.3.same) (c.requires.0.inside _ below)
-
-pub offset_bounds-small-value : goal.offset_bounds-small-value
-offset_bounds-small-value c = omega (arith, c.lookup_at-lookup.ensures.value_most)
-
-pub bounds-small-value : goal.bounds-small-value
-bounds-small-value c = omega (arith, c.lookup_at-lookup.ensures.value_most)
-
-pub offset_bounds-plane-index : goal.offset_bounds-plane-index
-offset_bounds-plane-index c = omega (arith, inside (goal.at.offset_bounds-plane-index c).After-index_at-index)
+index_at-index-requires g c =
+    let ready = c.requires in
+    (omega (arith, ready.few), ready.low, omega (arith, ready.inside (c.loop.i + c.look_up-lookup.result.zeros) (omega arith)))
 
 pub bounds-plane-index : goal.bounds-plane-index
-bounds-plane-index c = omega (arith, inside (goal.at.bounds-plane-index c).After-index_at-index)
+bounds-plane-index g c =
+    rw (c.index_at-index.ensures, c.loop.invariant.3.same) (c.requires.inside _ (omega arith))
 
-pub overflow_shl-w : goal.overflow_shl-w
-overflow_shl-w c = omega (arith, c.lookup_at-lookup.ensures.bits_most)
-
-pub overflow_add-i : goal.overflow_add-i
-overflow_add-i c =
-    omega (arith, c.loop-k.invariant.2, c.requires.0.few, lookup-count _ _ c.lookup_at-lookup.ensures, c.lookup_at-lookup.ensures.zeros_most)
-
-pub overflow_add-bits : goal.overflow_add-bits
-overflow_add-bits c =
-    omega (arith, c.loop-k.invariant.0, c.loop-k.invariant.1, c.lookup_at-lookup.ensures.bits_most)
-
-pub overflow_add-k : goal.overflow_add-k
-overflow_add-k c = omega (arith, c.loop-k.invariant.0)
-
-pub loop-k-smaller : goal.loop-k-smaller
-loop-k-smaller c = omega (arith, c.loop-k-test)
-
-pub loop-k-preserved : goal.loop-k-preserved
-loop-k-preserved c =
-    let fits : c.loop-k.i + c.lookup_at-lookup.result.zeros < c.args.layout.count = omega (arith, c.if-layout-to.false) in (
-      omega (arith, c.loop-k-test),
-      omega (arith, c.loop-k.invariant.1, c.lookup_at-lookup.ensures.bits_most),
-      omega (arith, fits, lookup-count _ _ c.lookup_at-lookup.ensures),
-      rw (back w32 (get_or c.args.small.now c.lookup_at-lookup.result.value (pos 0)) c.plane-1.given, c.index_at-index.ensures)
-          (taken-lookup _ _ _ _ _ c.requires.0 _ _ _ _ _ (omega (arith, c.loop-k.invariant.1, c.loop-k-test)) c.loop-k.invariant.3 c.lookup_at-lookup.ensures fits),
+pub loop-preserved : goal.loop-preserved
+loop-preserved g c =
+    let fits : c.loop.i + c.look_up-lookup.result.zeros < c.count-count.result = omega arith in (
+      omega arith,
+      omega arith,
+      omega (arith, lookup-count _ _ c.look_up-lookup.ensures),
+      rw (back w32 (get_or c.args.decoder.small.now c.look_up-lookup.result.value (pos 0)) c.plane-1.given, c.index_at-index.ensures)
+          (taken-lookup _ _ _ _ _ c.requires _ _ _ _ _ (omega arith) c.loop.invariant.3 c.look_up-lookup.ensures (omega arith)),
     )
 
-pub overflow_sub-result-2 : goal.overflow_sub-result-2
-overflow_sub-result-2 c = omega (arith, c.loop-k.invariant.3.started)
-
-pub shape_of-plane : goal.shape_of-plane
-shape_of-plane c = c.loop-k.invariant.3.same
-
 pub returns : goal.returns
-returns c = (within (goal.at.returns c).At-loop-k, c.loop-k.invariant.3.reads)
+returns g c = (omega arith, c.loop.invariant.3.reads)

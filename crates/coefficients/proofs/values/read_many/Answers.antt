@@ -1,99 +1,49 @@
 use Prim.Native.Nat.{◌+◌, ◌-◌, ◌≤◌, ◌<◌}
 use native.Mathlib.Omega.{arith}
 use lib.IntN.{pos}
-use lib.ListN.{length, get_or}
+use lib.ListN.{get_or}
 use mir.Syntax.{w32}
 use Rattle.base.proofs.RangeLaws.{back}
 use Rattle.lookups.proofs.LookupsLaws.{lookup-count}
 use Rattle.coefficients.proofs.BatchesLaws.{zeros-at-once, taken_none, taken-lookup}
 use Rattle.coefficients.proofs.values.read_many.Goals as goal
-use Rattle.coefficients.proofs.values.read_many.Goals.{After-index_at-index, Else-next-eq0, At-loop-k}
+use Rattle.coefficients.proofs.values.read_many.Goals.{Else-next-eq0, At-loop}
 
 pub returns-then-starts_with_ones : goal.returns-then-starts_with_ones
 returns-then-starts_with_ones c =
     zeros-at-once _ _ _ _ _ c.requires.1 32 _ (omega arith) (omega (arith, c.requires.0)) c.starts_with_ones.ensures c.if-starts_with_ones.true
 
-pub loop-k-init : goal.loop-k-init
-loop-k-init c = (omega arith, omega arith, omega arith, taken_none _ _ _ _ _ c.requires.1)
-
-pub overflow_sub-result : goal.overflow_sub-result
-overflow_sub-result c = omega (arith, c.loop-k.invariant.3.started)
+pub loop-init : goal.loop-init
+loop-init c = (omega arith, omega arith, omega arith, taken_none _ _ _ _ _ c.requires.1)
 
 pub shape_of-plane-then-next-eq0 : goal.shape_of-plane-then-next-eq0
-shape_of-plane-then-next-eq0 c = c.loop-k.invariant.3.same
+shape_of-plane-then-next-eq0 c = c.loop.invariant.3.same
 
 -- the values taken so far are before the layout's end
-within : (c : At-loop-k) → c.args.from + (c.loop-k.i - c.args.from) ≤ c.args.layout.count
-within c = omega (arith, c.requires.0, c.loop-k.invariant.0, c.loop-k.invariant.2, c.loop-k.invariant.3.started)
+within : (c : At-loop) → c.args.from + (c.loop.i - c.args.from) ≤ c.args.layout.count
+within c = omega (arith, c.requires.0, c.loop.invariant.0, c.loop.invariant.2, c.loop.invariant.3.started)
 
 pub returns-then-next-eq0 : goal.returns-then-next-eq0
 returns-then-next-eq0 c =
-    (within (goal.at.returns-then-next-eq0 c).At-loop-k, c.loop-k.invariant.3.reads)
+    (within (goal.at.returns-then-next-eq0 c).At-loop, c.loop.invariant.3.reads)
 
 -- and so is that of the next lookup
 below : (c : Else-next-eq0) →
-    c.loop-k.i + c.lookup_at-next.result.zeros < c.args.layout.count
+    c.loop.i + c.look_up-next.result.zeros < c.args.layout.count
 below c =
-    omega (arith, c.requires.0, c.loop-k.invariant.2, c.loop-k-test, c.lookup_at-next.ensures.zeros_most)
+    omega (arith, c.requires.0, c.loop.invariant.2, c.loop-test, c.look_up-next.ensures.zeros_most)
 
-pub overflow_add-i : goal.overflow_add-i
-overflow_add-i c = omega (arith, below (goal.at.overflow_add-i c).Else-next-eq0, c.requires.1.few)
-
-pub index_at-index-requires : goal.index_at-index-requires
-index_at-index-requires c =
-    let ready = c.requires.1 in
-    (omega (arith, below (goal.at.index_at-index-requires c).Else-next-eq0, ready.few), ready.low, omega (arith, ready.inside _ (below (goal.at.index_at-index-requires c).Else-next-eq0)))
-
--- the entry that is stored lies in the plane
-inside : (c : After-index_at-index) →
-    c.loop-k.i + c.lookup_at-next.result.zeros < c.args.layout.count →
-    c.index_at-index.result < length c.loop-k.plane
-inside c fits =
-    rw (c.index_at-index.ensures, c.loop-k.invariant.3.same) (c.requires.1.inside _ fits)
-
-pub offset_bounds-small-value : goal.offset_bounds-small-value
-offset_bounds-small-value c = omega (arith, c.lookup_at-next.ensures.value_most)
-
-pub bounds-small-value : goal.bounds-small-value
-bounds-small-value c = omega (arith, c.lookup_at-next.ensures.value_most)
-
-pub offset_bounds-plane-index : goal.offset_bounds-plane-index
-offset_bounds-plane-index c = omega (arith, inside (goal.at.offset_bounds-plane-index c).After-index_at-index (below (goal.at.offset_bounds-plane-index c).Else-next-eq0))
-
-pub bounds-plane-index : goal.bounds-plane-index
-bounds-plane-index c = omega (arith, inside (goal.at.bounds-plane-index c).After-index_at-index (below (goal.at.bounds-plane-index c).Else-next-eq0))
-
-pub overflow_shl-w : goal.overflow_shl-w
-overflow_shl-w c = omega (arith, c.lookup_at-next.ensures.bits_most)
-
-pub overflow_add-i-in-loop-k : goal.overflow_add-i-in-loop-k
-overflow_add-i-in-loop-k c =
-    omega (arith, below (goal.at.overflow_add-i-in-loop-k c).Else-next-eq0, c.requires.1.few, lookup-count _ _ c.lookup_at-next.ensures)
-
-pub overflow_add-bits : goal.overflow_add-bits
-overflow_add-bits c =
-    omega (arith, c.loop-k.invariant.0, c.loop-k.invariant.1, c.lookup_at-next.ensures.bits_most)
-
-pub overflow_add-k : goal.overflow_add-k
-overflow_add-k c = omega (arith, c.loop-k.invariant.0)
-
-pub loop-k-smaller : goal.loop-k-smaller
-loop-k-smaller c = omega (arith, c.loop-k-test)
-
-pub loop-k-preserved : goal.loop-k-preserved
-loop-k-preserved c = (
-  omega (arith, c.loop-k-test),
-  omega (arith, c.loop-k.invariant.1, c.lookup_at-next.ensures.bits_most),
-  omega (arith, c.loop-k.invariant.2, lookup-count _ _ c.lookup_at-next.ensures, c.lookup_at-next.ensures.zeros_most),
-  rw (back w32 (get_or c.args.small.now c.lookup_at-next.result.value (pos 0)) c.plane-1.given, c.index_at-index.ensures)
-      (taken-lookup _ _ _ _ _ c.requires.1 _ _ _ _ _ (omega (arith, c.loop-k.invariant.1, c.loop-k-test)) c.loop-k.invariant.3 c.lookup_at-next.ensures (below (goal.at.loop-k-preserved c).Else-next-eq0)),
+pub loop-preserved : goal.loop-preserved
+loop-preserved c = (
+  omega (arith, c.loop-test),
+  omega (arith, c.loop.invariant.1, c.look_up-next.ensures.bits_most),
+  omega (arith, c.loop.invariant.2, lookup-count _ _ c.look_up-next.ensures, c.look_up-next.ensures.zeros_most),
+  rw (back w32 (get_or c.args.decoder.small.now c.look_up-next.result.value (pos 0)) c.plane-1.given, c.index_at-index.ensures)
+      (taken-lookup _ _ _ _ _ c.requires.1 _ _ _ _ _ (omega (arith, c.loop.invariant.1, c.loop-test)) c.loop.invariant.3 c.look_up-next.ensures (below (goal.at.loop-preserved c).Else-next-eq0)),
 )
 
-pub overflow_sub-result-2 : goal.overflow_sub-result-2
-overflow_sub-result-2 c = omega (arith, c.loop-k.invariant.3.started)
-
 pub shape_of-plane : goal.shape_of-plane
-shape_of-plane c = c.loop-k.invariant.3.same
+shape_of-plane c = c.loop.invariant.3.same
 
 pub returns : goal.returns
-returns c = (within (goal.at.returns c).At-loop-k, c.loop-k.invariant.3.reads)
+returns c = (within (goal.at.returns c).At-loop, c.loop.invariant.3.reads)

@@ -2,7 +2,8 @@ use mathlib.Core.Path.{refl, sym, ◌∙◌}
 use mathlib.Core.Bool.{true, false}
 use Prim.Native.Nat.{◌+◌, ◌-◌}
 use native.Mathlib.Omega.{arith}
-use Rattle.coefficients.proofs.PortionsLaws.{refused-never, true-never, sofar-none, sofar-adds, portion-ends, portion-all, sound-again, ready-again}
+use Rattle.std.proofs.lemmas.Bool.{true≢false}
+use Rattle.coefficients.proofs.PortionsLaws.{refused-never, sofar-none, sofar-adds, portion-ends, sound-again, ready-again}
 use Rattle.coefficients.proofs.values.read_run.Goals as goal
 
 pub loop-i-init : goal.loop-i-init
@@ -15,15 +16,7 @@ read_some-part-requires c =
       omega (arith, c.loop-i-test.true),
       ready-again _ _ _ c.args.layout _ _ c.requires.0 _ _ _ inv.0 inv.1 inv.2 inv.5,
       sound-again _ _ inv.3 inv.4 c.requires.1,
-      c.requires.2,
     )
-
-pub overflow_add-i : goal.overflow_add-i
-overflow_add-i c =
-    omega (arith, c.read_some-part.ensures.some.0, c.requires.0.few)
-
-pub overflow_sub-result : goal.overflow_sub-result
-overflow_sub-result c = omega (arith, c.loop-i.invariant.0)
 
 pub shape_of-plane-in_default : goal.shape_of-plane-in_default
 shape_of-plane-in_default c = c.read_some-part.auto.plane ∙ c.loop-i.invariant.2
@@ -32,12 +25,9 @@ pub returns-in_default : goal.returns-in_default
 returns-in_default c =
     let inv = c.loop-i.invariant in record {
       read = portion-ends _ _ _ _ _ _ _ inv.3 c.loop-i.i (c.loop-i.i - c.args.from) _ _ inv.0 (omega (arith, inv.0)) inv.5 c.read_some-part.result _ c.read_some-part.ensures.read (omega (arith, inv.0)) false
-          (λ e. true-never (sym e)) (λ e. refl);
-      some = (omega (arith, c.read_some-part.ensures.some.0, inv.0), λ next e f. refused-never _ _ _ _ c.in_default.is e);
+          (λ e. absurd (true≢false (sym e))) (λ e. refl);
+      some = (omega (arith, c.read_some-part.ensures.some.0, inv.0), λ next e f. refused-never _ _ _ c.in_default.is e);
     }
-
-pub overflow_sub-result-then-part : goal.overflow_sub-result-then-part
-overflow_sub-result-then-part c = omega (arith, c.loop-i.invariant.0)
 
 pub shape_of-plane-then-part : goal.shape_of-plane-then-part
 shape_of-plane-then-part c = c.read_some-part.auto.plane ∙ c.loop-i.invariant.2
@@ -45,20 +35,16 @@ shape_of-plane-then-part c = c.read_some-part.auto.plane ∙ c.loop-i.invariant.
 pub returns-then-part : goal.returns-then-part
 returns-then-part c =
     let inv = c.loop-i.invariant in record {
-      read = rw (← c.in-At.is)
-          (portion-ends _ _ _ _ _ _ _ inv.3 c.loop-i.i (c.loop-i.i - c.args.from) _ _ inv.0 (omega (arith, inv.0)) inv.5 c.read_some-part.result _ c.read_some-part.ensures.read (omega (arith, inv.0)) true
-          (λ e. c.if-part.true) (λ e. sym c.if-part.true ∙ c.read_some-part.ensures.read.full (inv.3.stated-same ∙ e)));
-      some = (omega (arith, c.read_some-part.ensures.some.0, inv.0), λ next e f. true-never f);
+      read =
+          portion-ends _ _ _ _ _ _ _ inv.3 c.loop-i.i (c.loop-i.i - c.args.from) _ _ inv.0 (omega (arith, inv.0)) inv.5 c.read_some-part.result _ c.read_some-part.ensures.read (omega (arith, inv.0)) true
+          (λ e. c.if-part.true) (λ e. sym c.if-part.true ∙ c.read_some-part.ensures.read.full (inv.3.stated-same ∙ e));
+      some = (omega (arith, c.read_some-part.ensures.some.0, inv.0), λ next e f. absurd (true≢false f));
     }
-
-pub loop-i-smaller : goal.loop-i-smaller
-loop-i-smaller c =
-    omega (arith, c.read_some-part.ensures.some.0, c.read_some-part.ensures.some.1 c.if-part.false, c.loop-i.invariant.0)
 
 pub loop-i-preserved : goal.loop-i-preserved
 loop-i-preserved c =
     let inv = c.loop-i.invariant in
-    let told = c.in-At.is in (
+    let told = c.in-Ok.is in (
       omega (arith, inv.0),
       omega (arith, c.read_some-part.ensures.some.0),
       c.read_some-part.auto.plane ∙ inv.2,
@@ -69,13 +55,5 @@ loop-i-preserved c =
           (omega (arith, inv.0)) whole end begins),
     )
 
-pub overflow_sub-result-2 : goal.overflow_sub-result-2
-overflow_sub-result-2 c = omega (arith, c.loop-i.invariant.0)
-
 pub shape_of-plane : goal.shape_of-plane
 shape_of-plane c = c.loop-i.invariant.2
-
-pub returns : goal.returns
-returns c =
-    let inv = c.loop-i.invariant in
-    record { read = portion-all _ _ _ _ _ _ _ _ _ inv.4 inv.5; some = (omega (arith, inv.0, inv.1), λ next e f. omega (arith, inv.0, inv.1, c.loop-i-test.false)) }

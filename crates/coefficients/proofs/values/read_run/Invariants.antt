@@ -11,7 +11,7 @@ use Rattle.coefficients.proofs.values.read_run.Given as goal
 abbrev pub invariant-loop-i : goal.invariant-loop-i
 invariant-loop-i l =
     (l.from ≤ l.i) × (l.i ≤ l.layout.count) × (length l.plane ≡ length l.initial.plane) × Follows l.initial.next l.next × (l.next.bit ≤ l.initial.next.end)
-    × Sofar l.bytes l.initial.next (scale_of l.q) (index_of l.layout) l.from l.initial.plane (l.i - l.from) l.next.bit l.plane
+    × Sofar l.bytes l.initial.next (scale_of l.decoder.q) (index_of l.layout) l.from l.initial.plane (l.i - l.from) l.next.bit l.plane
 
 abbrev pub decreases-loop-i : goal.decreases-loop-i
 decreases-loop-i l = l.layout.count - l.i

@@ -1,8 +1,5 @@
-use mathlib.Core.Path.{◌≡◌, sym, ap, ◌∙◌}
-use Prim.Native.Nat.{ℕ}
+use mathlib.Core.Path.{◌≡◌, sym, ◌∙◌}
 use native.Mathlib.Omega.{arith}
-use lib.Dec.{eqb}
-use lib.ListN.{length}
 use Rattle.base.proofs.EveryLaws.{all_none, all_more, all-not}
 use Rattle.base.proofs.Booleans.{and-true}
 use Rattle.contents.specs.Table.{length_at, entry_is_right}
@@ -13,10 +10,7 @@ use Rattle.contents.proofs.table.bodies_are_right.Goals.{After-four_bytes_at-end
 pub loop-k-init : goal.loop-k-init
 loop-k-init c =
     let file = c.args.file.now in
-    (omega arith, omega (arith, first_body file), omega arith, all_none (entry_is_right file))
-
-pub entry_is_right-requires : goal.entry_is_right-requires
-entry_is_right-requires c = (omega arith, omega arith, c.loop-k.invariant.1)
+    (omega (arith, first_body file), omega arith, all_none (entry_is_right file))
 
 pub returns-then-not-entry_is_right : goal.returns-then-not-entry_is_right
 returns-then-not-entry_is_right c =
@@ -33,15 +27,8 @@ pub loop-k-preserved : goal.loop-k-preserved
 loop-k-preserved c =
     let file = c.args.file.now in
     let passed = sym c.entry_is_right.ensures ∙ c.if-not-entry_is_right.false in (
-      omega arith,
       omega (arith, length-read (goal.at.loop-k-preserved c).After-four_bytes_at-end, next-body file c.loop-k.k),
       omega arith,
       all_more (entry_is_right file) c.loop-k.k
-          ∙ and-true _ _ c.loop-k.invariant.3 passed,
+          ∙ and-true _ _ c.loop-k.invariant.2 passed,
     )
-
-pub returns : goal.returns
-returns c =
-    let file = c.args.file.now in
-    let all : c.args.count ≡ c.loop-k.k = omega arith in
-    rw (all, c.loop-k.invariant.3) (ap (λ (n : ℕ). eqb n (length file)) c.loop-k.invariant.1)

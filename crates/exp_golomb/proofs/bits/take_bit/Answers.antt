@@ -24,7 +24,7 @@ overflow_add-next c = omega (arith, below (goal.at.overflow_add-next c).Then-is_
 
 pub returns-then-is_present : goal.returns-then-is_present
 unfolding bit_at
-returns-then-is_present c = sym (take-present _ _ _ _ (there (goal.at.returns-then-is_present c).Then-is_present))
+returns-then-is_present c = rw c.from-byte.ensures (sym (take-present _ _ _ _ (there (goal.at.returns-then-is_present c).Then-is_present)))
 
 pub returns-then-stated : goal.returns-then-stated
 returns-then-stated c = sym (take-past-stated _ _ _ _ (sym c.is_present.ensures ∙ c.if-is_present.false) c.if-stated.true)

@@ -17,8 +17,6 @@ record_of-first-requires c =
 
 pub loop-k-init : goal.loop-k-init
 loop-k-init c = (
-  omega arith,
-  omega arith,
   refl,
   λ k other h.
       let first : k ≡ 0 = omega arith in
@@ -36,12 +34,10 @@ loop-k-preserved c =
     let steps = c.loop-k.steps in
     let k = c.loop-k.k in
     let step = c.record_of-step.result in (
-      omega arith,
-      omega arith,
-      simp length-set c.loop-k.invariant.2,
+      simp length-set c.loop-k.invariant.0,
       λ i other h.
           below_more (λ (i : ℕ). (other : LiftingStep) → StepAt (start + i) (get_or (set steps k step) i other)) k
-          (λ i h other. rw (get_or-set_other steps k i step other (omega arith)) (c.loop-k.invariant.3 i other h))
+          (λ i h other. rw (get_or-set_other steps k i step other (omega arith)) (c.loop-k.invariant.1 i other h))
           (λ other.
           rw (get_or-set_same steps k step other (omega arith))
           (row-record (start + k) _ (c.table_steps-table.ensures.each (start + k) _ (omega arith)) step c.record_of-step.ensures))
@@ -49,4 +45,4 @@ loop-k-preserved c =
     )
 
 pub returns : goal.returns
-returns c = (λ k other h. c.loop-k.invariant.3 k other (omega arith), c.loop-k.invariant.2)
+returns c = (λ k other h. c.loop-k.invariant.1 k other (omega arith), c.loop-k.invariant.0)

@@ -9,37 +9,31 @@ use Rattle.filters.specs.Table.{filter_from}
 use Rattle.lifting.specs.Layout.{half_index}
 use Rattle.lifting.proofs.LayoutLaws.{halves-copied, halves-measured, row_told, row-run}
 use Rattle.lifting.proofs.rows.filter_row_halves.Goals as goal
-use Rattle.lifting.proofs.rows.filter_row_halves.Goals.{After-copy_measured-high_most}
-
-pub overflow_add-bounds : goal.overflow_add-bounds
-overflow_add-bounds c = record { fits = omega (arith, c.copy_measured-low_most.type_inv) }
-
-pub overflow_add-bounds-2 : goal.overflow_add-bounds-2
-overflow_add-bounds-2 c = record { fits = omega (arith, c.copy_measured-high_most.type_inv) }
+use Rattle.lifting.proofs.rows.filter_row_halves.Goals.{After-copy_measured-2}
 
 pub filter_halves-requires : goal.filter_halves-requires
 filter_halves-requires c =
     let within =
-    halves-measured c.args.half c.args.start c.args.work.now c.args.halves.now c.copy_measured-low_most.new.plane c.copy_measured-high_most.new.plane c.requires.1.1 (omega arith)
-    c.copy_measured-low_most.ensures.copied c.copy_measured-high_most.ensures.copied c.copy_measured-low_most.result c.copy_measured-high_most.result c.copy_measured-low_most.ensures.measured c.copy_measured-high_most.ensures.measured
-    in record { le_half = (c.requires.1.0, c.requires.1.1, c.requires.0); halves_within = (omega (arith, c.copy_measured-low_most.type_inv), omega (arith, c.copy_measured-high_most.type_inv), within.0, within.1) }
+    halves-measured c.args.half c.args.start c.args.work.now c.args.halves.now c.copy_measured.new.plane c.copy_measured-2.new.plane c.requires.1.1 (omega arith)
+    c.copy_measured.ensures.copied c.copy_measured-2.ensures.copied c.copy_measured.result c.copy_measured-2.result c.copy_measured.ensures.measured c.copy_measured-2.ensures.measured
+    in record { le_half = (c.requires.1.0, c.requires.1.1, c.requires.0); halves_within = (omega (arith, c.from-low_most.ensures, c.copy_measured.type_inv), omega (arith, c.from-high_most.ensures, c.copy_measured-2.type_inv), rw (← c.from-low_most.ensures) at within.0, rw (← c.from-high_most.ensures) at within.1) }
 
 -- the buffer holds the row's halves
 copied :
-    (c : After-copy_measured-high_most) (x : ℕ)
+    (c : After-copy_measured-2) (x : ℕ)
     → x < 2 * c.args.half
-    → interleaved c.copy_measured-high_most.new.plane x ≡ get_or c.args.work.now (c.args.start + half_index c.args.half x) (pos 0)
+    → interleaved c.copy_measured-2.new.plane x ≡ get_or c.args.work.now (c.args.start + half_index c.args.half x) (pos 0)
 copied c =
-    halves-copied c.args.half c.args.start c.args.work.now c.args.halves.now c.copy_measured-low_most.new.plane c.copy_measured-high_most.new.plane
-    c.requires.1.1 (omega arith) c.copy_measured-low_most.ensures.copied c.copy_measured-high_most.ensures.copied
+    halves-copied c.args.half c.args.start c.args.work.now c.args.halves.now c.copy_measured.new.plane c.copy_measured-2.new.plane
+    c.requires.1.1 (omega arith) c.copy_measured.ensures.copied c.copy_measured-2.ensures.copied
 
 pub returns : goal.returns
 returns c =
     let steps = (filter_from c.args.filter).steps in
-    let halves = c.copy_measured-high_most.new.plane in record {
+    let halves = c.copy_measured-2.new.plane in record {
       told = c.filter_halves.ensures.told
-          ∙ row_told steps c.args.half c.args.start c.requires.1.0 c.args.work.now halves (copied (goal.at.returns c).After-copy_measured-high_most);
+          ∙ row_told steps c.args.half c.args.start c.requires.1.0 c.args.work.now halves (copied (goal.at.returns c).After-copy_measured-2);
       done = λ fits x inside.
           c.filter_halves.ensures.done fits x inside
-          ∙ row-run steps c.args.half c.args.start c.requires.1.0 c.args.work.now halves (copied (goal.at.returns c).After-copy_measured-high_most) x inside;
+          ∙ row-run steps c.args.half c.args.start c.requires.1.0 c.args.work.now halves (copied (goal.at.returns c).After-copy_measured-2) x inside;
     }

@@ -1,12 +1,13 @@
 -- `lifting::rows::lift_halves` meets its contract: the half of the elements that the step changes is lifted by the other, whose ends are repeated, as
 -- the indices that are clamped say.
 use mathlib.Core.Path.{◌≡◌}
-use mathlib.Core.Bool.{true, not}
+use mathlib.Core.Bool.{not}
 use mathlib.Core.List.{List}
 use Prim.Native.Nat.{◌+◌, ◌≤◌}
 use native.Mathlib.Omega.{arith}
 use lib.IntN.{ℤ}
 use lib.ListN.{length}
+use Rattle.std.specs.Prelude.{is_ok}
 use Rattle.lifting.specs.Layout.{base_of}
 use Rattle.lifting.specs.Lines.{LineInside}
 use Rattle.lifting.proofs.LineBoundsLaws.{HalfRead, half-reads, half-old, half-lifted, halves-before, halves-done}
@@ -33,10 +34,6 @@ overflow_add-source c = omega (arith, source-most (goal.at.overflow_add-source c
 
 pub line_starts-starts-requires : goal.line_starts-starts-requires
 line_starts-starts-requires c = omega (arith, source-most (goal.at.line_starts-starts-requires c).After-base_of-source, c.requires.le_half.2.in_buffer)
-
-pub stays_small-requires : goal.stays_small-requires
-stays_small-requires c =
-    (c.requires.le_half.2, (c.requires.halves_within.0, c.requires.halves_within.1))
 
 -- the buffer with the ends of the half that is read repeated
 abbrev extended : After-line_starts-starts → List ℤ
@@ -81,32 +78,21 @@ line-inside c long =
           (λ e. (ready c).apart (4 + k) (c.args.step.lead + t + x) (omega arith) (omega (arith, formed.in_buffer)) (omega (arith, e)));
     }
 
-pub lift_in_32_bits-requires-clause-line_inside : goal.lift_in_32_bits-requires-clause-line_inside
-lift_in_32_bits-requires-clause-line_inside c =
-    let long : length (extended (goal.at.lift_in_32_bits-requires-clause-line_inside c).After-line_starts-starts) ≡ 4112 = omega arith in
-    let known = ready (goal.at.lift_in_32_bits-requires-clause-line_inside c).After-line_starts-starts in
-    rw c.base_of-target.ensures
-    (line-inside (goal.at.lift_in_32_bits-requires-clause-line_inside c).After-line_starts-starts long, record { sources = half-reads known; target = half-old known })
-
-pub returns-then-stays_small : goal.returns-then-stays_small
-returns-then-stays_small c =
-    let long : length (extended (goal.at.returns-then-stays_small c).After-line_starts-starts) ≡ 4112 = omega arith in
-    let all =
-    halves-done _ _ _ _ _ _ c.requires.halves_within
-    (half-lifted (ready (goal.at.returns-then-stays_small c).After-line_starts-starts) true _ (line-inside (goal.at.returns-then-stays_small c).After-line_starts-starts long).inside (rw c.base_of-target.ensures at c.lift_in_32_bits.ensures))
-    in
-    record { told = all.0; done = all.1.0; bounded = all.1.1 }
-
-pub lift_exactly-requires : goal.lift_exactly-requires
-lift_exactly-requires c =
-    let long : length (extended (goal.at.lift_exactly-requires c).After-line_starts-starts) ≡ 4112 = omega arith in
-    rw c.base_of-target.ensures (line-inside (goal.at.lift_exactly-requires c).After-line_starts-starts long)
+pub lift-requires : goal.lift-requires
+lift-requires c =
+    let at = (goal.at.lift-requires c).After-line_starts-starts in
+    let long : length (extended at) ≡ 4112 = omega arith in
+    record {
+      line_inside = rw c.base_of-target.ensures (line-inside at long, record { sources = half-reads (ready at); target = half-old (ready at) });
+      bounds_fit = (c.requires.halves_within.0, c.requires.halves_within.1);
+    }
 
 pub returns : goal.returns
 returns c =
-    let long : length (extended (goal.at.returns c).After-line_starts-starts) ≡ 4112 = omega arith in
+    let at = (goal.at.returns c).After-line_starts-starts in
+    let long : length (extended at) ≡ 4112 = omega arith in
     let all =
     halves-done _ _ _ _ _ _ c.requires.halves_within
-    (half-lifted (ready (goal.at.returns c).After-line_starts-starts) c.lift_exactly.result _ (line-inside (goal.at.returns c).After-line_starts-starts long).inside (rw c.base_of-target.ensures at c.lift_exactly.ensures))
+    (half-lifted (ready at) (is_ok c.lift.result) _ (line-inside at long).inside (rw c.base_of-target.ensures at c.lift.ensures))
     in
     record { told = all.0; done = all.1.0; bounded = all.1.1 }

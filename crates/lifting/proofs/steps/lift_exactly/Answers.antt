@@ -1,15 +1,19 @@
 use mathlib.Core.Path.{◌≡◌, refl, sym, ◌∙◌}
 use mathlib.Core.Bool.{Bool, true, false, false≢true}
+use mathlib.Core.List.{List}
+use lib.IntN.{ℤ}
 use Prim.Native.Nat.{ℕ, ◌+◌, ◌≤◌}
 use native.Mathlib.Omega.{arith}
+use Rattle.std.proofs.lemmas.Result.{err_from_is_err_and}
 use Rattle.base.specs.Every.{all_below}
+use Rattle.base.specs.Fill.{fill}
 use Rattle.base.specs.Range.{fits32}
 use Rattle.base.proofs.EveryLaws.{all_none, all-part, all_append}
 use Rattle.base.proofs.FillLaws.{fill_none}
-use Rattle.lifting.specs.Lines.{line_new}
+use Rattle.lifting.specs.Lines.{line_new, LineLifted}
 use Rattle.lifting.proofs.LinesLaws.{part-inside, part-told, part-done}
 use Rattle.lifting.proofs.steps.lift_exactly.Goals as goal
-use Rattle.lifting.proofs.steps.lift_exactly.Goals.{After-lift_part, After-moved_by-part_starts}
+use Rattle.lifting.proofs.steps.lift_exactly.Goals.{After-moved_by-part_starts}
 
 pub loop-done-init : goal.loop-done-init
 loop-done-init c = (omega arith, refl, sym (fill_none _ _ _), all_none _)
@@ -28,65 +32,73 @@ overflow_add-start c =
 -- The part that a turn lifts.
 module _ (c : After-moved_by-part_starts) where
   abbrev part : ℕ
-  part = c.part_width-part.result
+  part = c.min-part.result
 
   within : c.loop-done.done + part ≤ c.args.width
-  within = omega (arith, c.loop-done.invariant.0, c.part_width-part.ensures.1)
-
-  some : 1 ≤ part
-  some = c.part_width-part.ensures.2 (omega (arith, c.loop-done-test.true))
+  within = omega (arith, c.loop-done.invariant.0, c.min-part.ensures)
 
 pub lift_part-requires : goal.lift_part-requires
 lift_part-requires c = (
   part-inside c.args.step c.args.starts.now c.args.plane.now c.args.start c.args.width c.requires c.loop-done.done c.loop-done.plane c.loop-done.invariant.2
       c.moved_by-part_starts.result c.moved_by-part_starts.ensures (part (goal.at.lift_part-requires c).After-moved_by-part_starts) (within (goal.at.lift_part-requires c).After-moved_by-part_starts),
-  c.part_width-part.ensures.0,
+  omega (arith, c.min-part.ensures),
 )
 
-pub shape_of-plane-then-not-lift_part : goal.shape_of-plane-then-not-lift_part
-shape_of-plane-then-not-lift_part c = c.lift_part.auto.plane ∙ c.loop-done.invariant.1
-
--- What it is told and what it leaves.
-module _ (c : After-lift_part) where
+-- What a part is told, and what it leaves.
+module _ (c : After-moved_by-part_starts) where
   abbrev new : ℕ → Bool
   new x = fits32 (line_new c.args.step c.args.starts.now c.args.plane.now c.args.start x)
 
-  told : c.lift_part.result ≡ all_below (part c.before.before.before) (λ x. new (c.loop-done.done + x))
+  told :
+      (answer : Bool) (plane' : List ℤ) → LineLifted c.args.step c.moved_by-part_starts.result (c.args.start + c.loop-done.done) (part c) c.loop-done.plane answer plane'
+      → answer ≡ all_below (part c) (λ x. new (c.loop-done.done + x))
   told =
       part-told c.args.step c.args.starts.now c.args.plane.now c.args.start c.args.width c.requires
-      c.loop-done.done c.loop-done.plane c.loop-done.invariant.2 c.moved_by-part_starts.result c.moved_by-part_starts.ensures (part c.before.before.before) (within c.before.before.before) _ _ c.lift_part.ensures
+      c.loop-done.done c.loop-done.plane c.loop-done.invariant.2 c.moved_by-part_starts.result c.moved_by-part_starts.ensures (part c) (within c)
 
-pub returns-then-not-lift_part : goal.returns-then-not-lift_part
-returns-then-not-lift_part c =
-    record { told = by (all_below c.args.width (new (goal.at.returns-then-not-lift_part c).After-lift_part)) refl; done = λ wrong. absurd (false≢true wrong) }
+-- the line fails where a part of it does
+part-fails : (test : ℕ → Bool) (width done part : ℕ) → done + part ≤ width → all_below part (λ x. test (done + x)) ≡ false → false ≡ all_below width test
+part-fails test width done part inside fails = by (all_below width test) refl
   where
-    by : (all : Bool) → all_below c.args.width (new (goal.at.returns-then-not-lift_part c).After-lift_part) ≡ all → false ≡ all_below c.args.width (new (goal.at.returns-then-not-lift_part c).After-lift_part)
-    by true e =
-        absurd
-        (false≢true
-        (sym c.if-not-lift_part.true ∙ told (goal.at.returns-then-not-lift_part c).After-lift_part ∙ all-part (new (goal.at.returns-then-not-lift_part c).After-lift_part) c.args.width c.loop-done.done (part (goal.at.returns-then-not-lift_part c).After-moved_by-part_starts) e (within (goal.at.returns-then-not-lift_part c).After-moved_by-part_starts)))
+    by : (all : Bool) → all_below width test ≡ all → false ≡ all_below width test
+    by true e = absurd (false≢true (sym fails ∙ all-part test width done part e inside))
     by false e = sym e
 
-pub overflow_add-done : goal.overflow_add-done
-overflow_add-done c =
-    omega (arith, within (goal.at.overflow_add-done c).After-moved_by-part_starts, c.requires.width_most)
+pub returns-in_err-lift_part : goal.returns-in_err-lift_part
+returns-in_err-lift_part c =
+    let at = (goal.at.returns-in_err-lift_part c).After-moved_by-part_starts in
+    let failed = err_from_is_err_and c.from_residual.result c.from_residual.ensures.1 in
+    rw failed.1
+    (record { told = part-fails (new at) c.args.width c.loop-done.done (part at) (within at) (sym (told at _ _ c.in_err-lift_part.ensures)); done = λ wrong. absurd (false≢true wrong) })
 
-pub loop-done-smaller : goal.loop-done-smaller
-loop-done-smaller c =
-    omega (arith, some (goal.at.loop-done-smaller c).After-moved_by-part_starts, within (goal.at.loop-done-smaller c).After-moved_by-part_starts)
+-- What stands once a part is lifted: as much of the line as is lifted then, and that it fits.
+module _ (c : After-moved_by-part_starts) where
+  more :
+      (plane' : List ℤ) → LineLifted c.args.step c.moved_by-part_starts.result (c.args.start + c.loop-done.done) (part c) c.loop-done.plane true plane'
+      → (plane' ≡ fill c.args.plane.now c.args.start (c.loop-done.done + part c) (line_new c.args.step c.args.starts.now c.args.plane.now c.args.start))
+      × (all_below (c.loop-done.done + part c) (new c) ≡ true)
+  more plane' lifted = (
+    part-done c.args.step c.args.starts.now c.args.plane.now c.args.start c.args.width c.requires c.loop-done.done c.loop-done.plane c.loop-done.invariant.2
+        c.moved_by-part_starts.result c.moved_by-part_starts.ensures (part c) (within c) _ _ lifted refl,
+    all_append (new c) c.loop-done.done (part c) c.loop-done.invariant.3 (sym (told c _ _ lifted)),
+  )
 
 pub loop-done-preserved : goal.loop-done-preserved
 loop-done-preserved c =
-    let went : c.lift_part.result ≡ true = c.if-not-lift_part.false in (
-      within (goal.at.loop-done-preserved c).After-moved_by-part_starts,
-      c.lift_part.auto.plane ∙ c.loop-done.invariant.1,
-      part-done c.args.step c.args.starts.now c.args.plane.now c.args.start c.args.width c.requires c.loop-done.done c.loop-done.plane c.loop-done.invariant.2
-          c.moved_by-part_starts.result c.moved_by-part_starts.ensures (part (goal.at.loop-done-preserved c).After-moved_by-part_starts) (within (goal.at.loop-done-preserved c).After-moved_by-part_starts) _ _ c.lift_part.ensures went,
-      all_append (new (goal.at.loop-done-preserved c).After-lift_part) c.loop-done.done (part (goal.at.loop-done-preserved c).After-moved_by-part_starts) c.loop-done.invariant.3 (sym (told (goal.at.loop-done-preserved c).After-lift_part) ∙ went),
-    )
+    let at = (goal.at.loop-done-preserved c).After-moved_by-part_starts in
+    let next : c.loop-done.done + part at ≡ c.loop-done.done + 256 = omega (arith, c.min-part.ensures) in
+    let after = rw next at (more at _ c.in_ok-lift_part.ensures) in
+    (omega (arith, within at, next), c.lift_part.auto.plane ∙ c.loop-done.invariant.1, after.0, after.1)
 
 pub shape_of-plane : goal.shape_of-plane
 shape_of-plane c = c.loop-done.invariant.1
+
+pub returns-in_ok-lift_part : goal.returns-in_ok-lift_part
+returns-in_ok-lift_part c =
+    let at = (goal.at.returns-in_ok-lift_part c).After-moved_by-part_starts in
+    let all : c.loop-done.done + part at ≡ c.args.width = omega (arith, c.min-part.ensures) in
+    let after = rw all at (more at _ c.in_ok-lift_part.ensures) in
+    record { told = sym after.1; done = λ went. after.0 }
 
 pub returns : goal.returns
 returns c =

@@ -6,32 +6,38 @@ use native.Mathlib.Nat.{lt_of_le_of_lt}
 use native.Mathlib.Omega.{arith}
 use borrow.Author.Tests.{ltb-true}
 use lib.IntN.{nat_abs}
+use lib.Signed.{mag}
 use mir.Syntax.{w32, w64}
 use mir.Val.{to_z, of_z}
 use mathlib.Core.Bool.{true}
 use Rattle.base.specs.Range.{fits32}
 use Rattle.base.proofs.EveryLaws.{all_from}
+use Rattle.base.proofs.Integers.{mag-size}
 use Rattle.base.proofs.RangeLaws.{back}
 use Rattle.lines.specs.Sums.{sizes_below, tap_at}
-use Rattle.lines.proofs.SumsLaws.{size-fits32}
 use Rattle.filters.specs.Lifting.{rounding}
 use Rattle.filters.proofs.BoundsLaws.{products-fit, line_fits}
 use Rattle.filters.proofs.LiftingLaws.{rounding-most, rounding-back}
 use Rattle.lifting.specs.Lines.{line_new}
 use Rattle.lifting.proofs.steps.lift_in_32_bits.Goals as goal
-use Rattle.lifting.proofs.steps.lift_in_32_bits.Goals.{After-narrow, After-rounding_of-round, Start}
+use Rattle.lifting.proofs.steps.lift_in_32_bits.Goals.{After-rounding_of, Start}
 
--- what it is rounded with is document 01's
-rounded : (c : After-rounding_of-round) → to_z w64 (of_z w64 c.rounding_of-round.result) ≡ rounding c.args.step.scale
-rounded c = rounding-back _ _ c.requires.line_inside.0.formed.small_scale c.rounding_of-round.ensures
+-- what it is rounded with is document 01's, which is small; and it is that in 32 bits too
+small : (c : After-rounding_of) → mag (rounding c.args.step.scale) < 2 ^ 31
+small c =
+    let scale = c.args.step.scale in
+    omega (arith, mag-size (rounding scale), rounding-most scale c.requires.line_inside.0.formed.small_scale)
 
-pub narrow-requires : goal.narrow-requires
-narrow-requires c =
-    rw (rounded (goal.at.narrow-requires c).After-rounding_of-round) (size-fits32 _ (omega (arith, rounding-most c.args.step.scale c.requires.line_inside.0.formed.small_scale)))
+rounded : (c : After-rounding_of) → to_z w64 (of_z w64 c.rounding_of.result) ≡ rounding c.args.step.scale
+rounded c = rounding-back _ _ c.requires.line_inside.0.formed.small_scale c.rounding_of.ensures
 
--- as it is handed on, in 32 bits
-handed : (c : After-narrow) → to_z w32 (of_z w32 c.narrow.result) ≡ rounding c.args.step.scale
-handed c = back w32 _ c.narrow.type_inv ∙ c.narrow.ensures ∙ rounded c.before
+pub overflow_cast-line : goal.overflow_cast-line
+overflow_cast-line c =
+    let at = (goal.at.overflow_cast-line c).After-rounding_of in
+    rw (rounded at) (record { sfits = small at })
+
+handed : (c : After-rounding_of) → to_z w32 (of_z w32 (to_z w64 (of_z w64 c.rounding_of.result))) ≡ rounding c.args.step.scale
+handed c = rw (rounded c) (back w32 _ (small c))
 
 -- the sums and the new numbers are small
 sums-fit : (s : Start) → let a = s.args in
@@ -46,7 +52,8 @@ pub lift_small-requires : goal.lift_small-requires
 lift_small-requires c =
     let line = c.requires.line_inside.0 in
     let formed = line.formed in
-    rw (handed (goal.at.lift_small-requires c).After-narrow)
+    let start = (goal.at.lift_small-requires c).Start in
+    rw (handed (goal.at.lift_small-requires c).After-rounding_of)
     (record {
       some_taps = formed.some_taps;
       few_taps = formed.few_taps;
@@ -56,10 +63,13 @@ lift_small-requires c =
       reads = λ t h. record { inside = line.sources_inside t h; apart = λ x k. line.apart t x k h };
       narrowed = λ narrow t x h inside.
           lt_of_le_of_lt (c.requires.line_inside.1.sources t h x inside) (ltb-true _ _ (sym c.reads_narrow-narrow.ensures ∙ narrow));
-      room = sums-fit (goal.at.lift_small-requires c).Start;
-      line_fits = record { inside = line.inside; scaled = omega (arith, formed.small_scale); new_fit = new_fit (goal.at.lift_small-requires c).Start };
+      room = sums-fit start;
+      line_fits = record { inside = line.inside; scaled = omega (arith, formed.small_scale); new_fit = new_fit start };
     })
 
 pub returns : goal.returns
 returns c =
-    record { told = sym (all_from _ _ (new_fit (goal.at.returns c).Start)); done = λ yes. rw (handed (goal.at.returns c).After-narrow) at c.lift_small.ensures }
+    record {
+      told = sym (all_from _ _ (new_fit (goal.at.returns c).Start));
+      done = λ yes. rw (handed (goal.at.returns c).After-rounding_of) at c.lift_small.ensures;
+    }

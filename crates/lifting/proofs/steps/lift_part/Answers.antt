@@ -4,6 +4,9 @@ use Prim.Native.Nat.{ℕ, ◌+◌, ◌<◌}
 use native.Mathlib.Omega.{arith}
 use lib.IntN.{pos}
 use lib.ListN.{get_or}
+use mathlib.Core.Bool.{true, false≢true}
+use Rattle.std.specs.Prelude.{Result, Ok, Err, is_ok, OnOk}
+use Rattle.base.specs.declared.status.OutOfRange.{OutOfRange}
 use mir.Syntax.{w64}
 use mir.Val.{to_z, of_z}
 use Rattle.base.proofs.EveryLaws.{all_same}
@@ -23,6 +26,11 @@ pub sum_taps-requires : goal.sum_taps-requires
 sum_taps-requires c =
     let formed = c.requires.0.formed in record { width_bound = (c.requires.1, formed.few_taps, rw (rounded (goal.at.sum_taps-requires c).After-rounding_of-round) (omega (arith, rounding-most c.args.step.scale formed.small_scale))); taps_fit = λ t h. (formed.small_taps t (omega (arith, formed.few_taps)), c.requires.0.sources_inside t h) }
 
+-- what holds where lifting a line answers Ok
+if-ok : {P : Type 0} (r : Result (Unit {0}) OutOfRange) → is_ok r ≡ true → OnOk r P → P
+if-ok (Ok x) fits holds = holds
+if-ok (Err e) wrong holds = absurd (false≢true wrong)
+
 pub returns : goal.returns
 returns c =
     let a = c.args in
@@ -31,5 +39,5 @@ returns c =
     in
     record {
       told = c.lift_line.ensures.told ∙ all_same _ _ a.width (λ x h. rw (same x h) refl);
-      done = λ yes. c.lift_line.ensures.done yes ∙ fill-same a.plane.now a.start _ _ a.width same;
+      done = λ yes. if-ok _ yes c.lift_line.ensures.done ∙ fill-same a.plane.now a.start _ _ a.width same;
     }

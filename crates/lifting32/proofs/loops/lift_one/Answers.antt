@@ -3,7 +3,7 @@ use mathlib.Core.Bool.{false≢true}
 use Prim.Native.Nat.{ℕ, ◌+◌}
 use native.Mathlib.Omega.{arith}
 use lib.IntN.{ℤ, pos, ◌+ℤ◌, ◌*ℤ◌}
-use lib.ListN.{get_or, length-set}
+use lib.ListN.{get_or}
 use mir.Syntax.{w32}
 use mir.Val.{to_z, of_z}
 use Rattle.base.proofs.FillLaws.{fill_none}
@@ -15,7 +15,7 @@ use Rattle.lifting32.proofs.loops.lift_one.Goals as goal
 use Rattle.lifting32.proofs.loops.lift_one.Goals.{After-lifted, After-lifted-arg-1, After-struct_told-1, After-with_product-arg-1, After-with_product-sum, In-loop-x, Start}
 
 pub loop-x-init : goal.loop-x-init
-loop-x-init c = (omega arith, refl, sym (fill_none _ _ _))
+loop-x-init c = sym (fill_none _ _ _)
 
 -- the call's start, the turn's entry, and the arguments as they are handed on
 abbrev begin : In-loop-x → Start
@@ -30,12 +30,6 @@ round t = back w32 _ t.struct_told-1.given.1.1.0.1
 tap : (s : Start) → to_z w32 (of_z w32 s.args.tap) ≡ s.args.tap
 tap s = back w32 s.args.tap s.ranges.tap.sfits
 
-pub overflow_add-source : goal.overflow_add-source
-overflow_add-source c = omega (arith, (begin (goal.at.overflow_add-source c).In-loop-x).requires.reads.inside, c.loop-x-test.true)
-
-pub slice_copy_out-with_product : goal.slice_copy_out-with_product
-slice_copy_out-with_product c = rw c.loop-x.invariant.1 (omega (arith, (begin (goal.at.slice_copy_out-with_product c).In-loop-x).requires.reads.inside, c.loop-x-test.true))
-
 -- the number that a turn reads
 abbrev read : In-loop-x → ℤ
 read t = get_or (begin t).args.plane.now ((begin t).args.source + at t) (pos 0)
@@ -43,7 +37,7 @@ read t = get_or (begin t).args.plane.now ((begin t).args.source + at t) (pos 0)
 as-came : (c : After-with_product-arg-1) → to_z w32 (of_z w32 (get_or c.loop-x.plane ((begin c.before).args.source + at c.before) (pos 0))) ≡ read c.before
 as-came c =
     back w32 _ c.with_product-arg-1.given
-    ∙ outside _ _ _ _ _ c.loop-x.invariant.2 _ (λ k below. (begin c.before).requires.reads.apart (at c.before) k c.loop-x-test.true (omega arith))
+    ∙ outside _ _ _ _ _ c.loop-x.invariant _ (λ k below. (begin c.before).requires.reads.apart (at c.before) k c.loop-x-test.true (omega arith))
 
 pub with_product-sum-requires : goal.with_product-sum-requires
 with_product-sum-requires c =
@@ -55,15 +49,9 @@ sum : (c : After-with_product-sum) → let a = (begin c.before.before).args in
 sum c =
     back w32 _ c.with_product-sum.type_inv ∙ c.with_product-sum.ensures ∙ rw (as-came c.before, round c.before.before.before.before, tap (begin c.before.before)) refl
 
-pub overflow_add-start : goal.overflow_add-start
-overflow_add-start c = omega (arith, (begin (goal.at.overflow_add-start c).In-loop-x).requires.line_fits.inside, c.loop-x-test.true)
-
-pub slice_copy_out-lifted : goal.slice_copy_out-lifted
-slice_copy_out-lifted c = rw c.loop-x.invariant.1 (omega (arith, (begin (goal.at.slice_copy_out-lifted c).In-loop-x).requires.line_fits.inside, c.loop-x-test.true))
-
 -- the number that is changed is as it came
 old : (c : After-lifted-arg-1) → to_z w32 (of_z w32 (get_or c.loop-x.plane ((begin c.before.before.before).args.line.start + at c.before.before.before) (pos 0))) ≡ get_or (begin c.before.before.before).args.plane.now ((begin c.before.before.before).args.line.start + at c.before.before.before) (pos 0)
-old c = back w32 _ c.lifted-arg-1.given ∙ next _ _ _ _ _ c.loop-x.invariant.2
+old c = back w32 _ c.lifted-arg-1.given ∙ next _ _ _ _ _ c.loop-x.invariant
 
 pub lifted-requires : goal.lifted-requires
 unfolding one_sum
@@ -75,25 +63,12 @@ made : (c : After-lifted) → let a = (begin c.before.before.before.before).args
     to_z w32 (of_z w32 c.lifted.result) ≡ new_at a.adds a.line.scale a.plane.now a.line.start (λ k. a.line.round +ℤ a.tap *ℤ get_or a.plane.now (a.source + k) (pos 0)) (at c.before.before.before.before)
 made c = back w32 _ c.lifted.type_inv ∙ c.lifted.ensures ∙ rw (old c.before, sum c.before.before) refl
 
-pub overflow_add-start-in-loop-x : goal.overflow_add-start-in-loop-x
-overflow_add-start-in-loop-x c = omega (arith, (begin (goal.at.overflow_add-start-in-loop-x c).In-loop-x).requires.line_fits.inside, c.loop-x-test.true)
-
-pub bounds-plane-start : goal.bounds-plane-start
-bounds-plane-start c =
-    rw c.loop-x.invariant.1 (omega (arith, (begin (goal.at.bounds-plane-start c).In-loop-x).requires.line_fits.inside, c.loop-x-test.true))
-
 pub loop-x-preserved : goal.loop-x-preserved
-loop-x-preserved c = (
-  omega arith,
-  simp length-set c.loop-x.invariant.1,
-  stored _ _ _ _ _ c.loop-x.invariant.2 _ (made (goal.at.loop-x-preserved c).After-lifted ∙ rw (round (goal.at.loop-x-preserved c).After-struct_told-1, tap (begin (goal.at.loop-x-preserved c).In-loop-x)) refl),
-)
-
-pub shape_of-plane : goal.shape_of-plane
-shape_of-plane c = c.loop-x.invariant.1
+loop-x-preserved c =
+    stored _ _ _ _ _ c.loop-x.invariant _ (made (goal.at.loop-x-preserved c).After-lifted ∙ rw (round (goal.at.loop-x-preserved c).After-struct_told-1, tap (begin (goal.at.loop-x-preserved c).In-loop-x)) refl)
 
 pub returns : goal.returns
 unfolding one_sum lifted_by_one
 returns c =
     let all : c.loop-x.x ≡ c.args.line.width = omega arith in
-    c.loop-x.invariant.2 ∙ rw (all, round (goal.at.returns c).After-struct_told-1, tap (goal.at.returns c).Start) refl
+    c.loop-x.invariant ∙ rw (all, round (goal.at.returns c).After-struct_told-1, tap (goal.at.returns c).Start) refl

@@ -2,7 +2,7 @@ use mathlib.Core.Path.{◌≡◌, refl, sym, ◌∙◌}
 use Prim.Native.Nat.{ℕ, ◌+◌, ◌<◌}
 use native.Mathlib.Omega.{arith}
 use lib.IntN.{ℤ, pos}
-use lib.ListN.{get_or, length-set}
+use lib.ListN.{get_or}
 use mir.Syntax.{w32}
 use mir.Val.{to_z, of_z}
 use Rattle.base.proofs.FillLaws.{fill_none}
@@ -16,7 +16,7 @@ use Rattle.lifting32.proofs.loops.lift_pairs.Goals as goal
 use Rattle.lifting32.proofs.loops.lift_pairs.Goals.{After-lifted, After-lifted-arg-1, After-pair_sum-sum, In-loop-x, Start}
 
 pub loop-x-init : goal.loop-x-init
-loop-x-init c = (omega arith, refl, sym (fill_none _ _ _))
+loop-x-init c = sym (fill_none _ _ _)
 
 -- the call's start, the turn's entry, and the taps as they are handed on
 abbrev begin : In-loop-x → Start
@@ -40,13 +40,13 @@ tap-3 s = back w32 s.args.t3 s.ranges.t3.sfits
 -- the numbers that a turn reads are those that came
 as-came : (t : In-loop-x) (j : ℕ) → j < 8 → let i = get_or (begin t).args.paired.indices j 0 + at t in
     get_or t.loop-x.plane i (pos 0) ≡ get_or (begin t).args.plane.now i (pos 0)
-as-came t j h = outside _ _ _ _ _ t.loop-x.invariant.2 _ (λ k below. ((begin t).requires.reads j h).apart (at t) k t.loop-x-test.true (omega arith))
+as-came t j h = outside _ _ _ _ _ t.loop-x.invariant _ (λ k below. ((begin t).requires.reads j h).apart (at t) k t.loop-x-test.true (omega arith))
 
 pub pair_sum-sum-requires : goal.pair_sum-sum-requires
 pair_sum-sum-requires c =
     let s = begin (goal.at.pair_sum-sum-requires c).In-loop-x in
     rw (tap-0 s, tap-1 s, tap-2 s, tap-3 s)
-    (same-fits _ _ _ _ _ _ _ _ c.loop-x.invariant.1 (as-came (goal.at.pair_sum-sum-requires c).In-loop-x) (s.requires.pairs_fit (at (goal.at.pair_sum-sum-requires c).In-loop-x) c.loop-x-test.true))
+    (same-fits _ _ _ _ _ _ _ _ c.loop-x.auto.plane (as-came (goal.at.pair_sum-sum-requires c).In-loop-x) (s.requires.pairs_fit (at (goal.at.pair_sum-sum-requires c).In-loop-x) c.loop-x-test.true))
 
 -- the sum is the contract's
 abbrev wanted : In-loop-x → ℕ → ℤ
@@ -57,18 +57,12 @@ sum c =
     let s = begin c.before in
     back w32 _ c.pair_sum-sum.type_inv
     ∙ c.pair_sum-sum.ensures
-    ∙ rw (tap-0 s, tap-1 s, tap-2 s, tap-3 s) (same_sum _ _ _ _ _ _ _ _ c.loop-x.invariant.1 (as-came c.before))
-
-pub overflow_add-start : goal.overflow_add-start
-overflow_add-start c = omega (arith, (begin (goal.at.overflow_add-start c).In-loop-x).requires.line_fits.inside, c.loop-x-test.true)
-
-pub slice_copy_out-lifted : goal.slice_copy_out-lifted
-slice_copy_out-lifted c = rw c.loop-x.invariant.1 (omega (arith, (begin (goal.at.slice_copy_out-lifted c).In-loop-x).requires.line_fits.inside, c.loop-x-test.true))
+    ∙ rw (tap-0 s, tap-1 s, tap-2 s, tap-3 s) (same_sum _ _ _ _ _ _ _ _ c.loop-x.auto.plane (as-came c.before))
 
 -- the number that is changed is as it came
 old : (c : After-lifted-arg-1) → let i = (begin c.before.before).args.paired.line.start + at c.before.before in
     to_z w32 (of_z w32 (get_or c.loop-x.plane i (pos 0))) ≡ get_or (begin c.before.before).args.plane.now i (pos 0)
-old c = back w32 _ c.lifted-arg-1.given ∙ next _ _ _ _ _ c.loop-x.invariant.2
+old c = back w32 _ c.lifted-arg-1.given ∙ next _ _ _ _ _ c.loop-x.invariant
 
 pub lifted-requires : goal.lifted-requires
 lifted-requires c =
@@ -79,26 +73,13 @@ made : (c : After-lifted) → let a = (begin c.before.before.before).args in
     to_z w32 (of_z w32 c.lifted.result) ≡ new_at a.adds a.paired.line.scale a.plane.now a.paired.line.start (wanted c.before.before.before) (at c.before.before.before)
 made c = back w32 _ c.lifted.type_inv ∙ c.lifted.ensures ∙ rw (old c.before, sum c.before.before) refl
 
-pub overflow_add-start-in-loop-x : goal.overflow_add-start-in-loop-x
-overflow_add-start-in-loop-x c = omega (arith, (begin (goal.at.overflow_add-start-in-loop-x c).In-loop-x).requires.line_fits.inside, c.loop-x-test.true)
-
-pub bounds-plane-start : goal.bounds-plane-start
-bounds-plane-start c =
-    rw c.loop-x.invariant.1 (omega (arith, (begin (goal.at.bounds-plane-start c).In-loop-x).requires.line_fits.inside, c.loop-x-test.true))
-
 pub loop-x-preserved : goal.loop-x-preserved
 loop-x-preserved c =
-    let s = begin (goal.at.loop-x-preserved c).In-loop-x in (
-      omega arith,
-      simp length-set c.loop-x.invariant.1,
-      stored _ _ _ _ _ c.loop-x.invariant.2 _ (made (goal.at.loop-x-preserved c).After-lifted ∙ rw (tap-0 s, tap-1 s, tap-2 s, tap-3 s) refl),
-    )
-
-pub shape_of-plane : goal.shape_of-plane
-shape_of-plane c = c.loop-x.invariant.1
+    let s = begin (goal.at.loop-x-preserved c).In-loop-x in
+    stored _ _ _ _ _ c.loop-x.invariant _ (made (goal.at.loop-x-preserved c).After-lifted ∙ rw (tap-0 s, tap-1 s, tap-2 s, tap-3 s) refl)
 
 pub returns : goal.returns
 unfolding lifted_by_pairs
 returns c =
     let all : c.loop-x.x ≡ c.args.paired.line.width = omega arith in
-    c.loop-x.invariant.2 ∙ rw (all, tap-0 (goal.at.returns c).Start, tap-1 (goal.at.returns c).Start, tap-2 (goal.at.returns c).Start, tap-3 (goal.at.returns c).Start) refl
+    c.loop-x.invariant ∙ rw (all, tap-0 (goal.at.returns c).Start, tap-1 (goal.at.returns c).Start, tap-2 (goal.at.returns c).Start, tap-3 (goal.at.returns c).Start) refl

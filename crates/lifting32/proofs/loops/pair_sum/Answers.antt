@@ -1,7 +1,6 @@
 -- `lifting32::loops::pair_sum` meets its contract: each pair has room beside the sum of those before it.
 use mathlib.Core.Path.{◌≡◌, refl, ◌∙◌}
 use Prim.Native.Nat.{ℕ}
-use native.Mathlib.Omega.{arith}
 use lib.IntN.{ℤ, ◌+ℤ◌, ◌*ℤ◌}
 use mir.Syntax.{w32}
 use mir.Val.{to_z, of_z}
@@ -30,12 +29,6 @@ tap-2 s = back w32 s.args.t2 s.ranges.t2.sfits
 
 tap-3 : (s : Start) → to_z w32 (of_z w32 s.args.t3) ≡ s.args.t3
 tap-3 s = back w32 s.args.t3 s.ranges.t3.sfits
-
-pub overflow_add-indices : goal.overflow_add-indices
-overflow_add-indices c = omega (arith, c.requires.inside 0 (omega arith))
-
-pub overflow_add-indices-2 : goal.overflow_add-indices-2
-overflow_add-indices-2 c = omega (arith, c.requires.inside 4 (omega arith))
 
 pub with_pair-s0-requires : goal.with_pair-s0-requires
 with_pair-s0-requires c = rw (round (goal.at.with_pair-s0-requires c).After-struct_told-1, tap-0 (goal.at.with_pair-s0-requires c).Start) (first_fits c.requires).1

@@ -1,63 +1,55 @@
 -- `lifting32::loops::with_product` meets its contract: the product fits 32 bits, and so does the sum with it.
-use mathlib.Core.Path.{◌≡◌, refl, ◌∙◌}
+use mathlib.Core.Path.{◌≡◌, ◌∙◌}
 use Prim.Native.Nat.{◌^◌, ◌<◌}
 use native.Mathlib.Omega.{arith}
 use lib.IntN.{◌+ℤ◌, ◌*ℤ◌}
 use lib.Signed.{mag}
-use mir.Syntax.{w32}
+use mir.Syntax.{w16, w32}
 use mir.Val.{to_z, of_z}
 use Rattle.base.proofs.Integers.{mag-size, size-add}
 use Rattle.base.proofs.RangeLaws.{back}
 use Rattle.lifting32.proofs.loops.with_product.Goals as goal
-use Rattle.lifting32.proofs.loops.with_product.Goals.{After-as_16_bits, After-mul, After-mul-2, Start}
-
--- the arguments as they are handed on
-tap : (s : Start) → to_z w32 (of_z w32 s.args.tap) ≡ s.args.tap
-tap s = back w32 s.args.tap s.ranges.tap.sfits
-
-number : (s : Start) → to_z w32 (of_z w32 s.args.v) ≡ s.args.v
-number s = back w32 s.args.v s.ranges.v.sfits
+use Rattle.lifting32.proofs.loops.with_product.Goals.{After-from, Start}
 
 -- there is room for the product, alone and beside the sum
-product-room : (s : Start) → mag (s.args.tap *ℤ s.args.v) < 2 ^ 31
-product-room s = omega (arith, s.requires.room, mag-size (s.args.tap *ℤ s.args.v))
+alone : (s : Start) → mag (s.args.tap *ℤ s.args.v) < 2 ^ 31
+alone s = omega (arith, s.requires.room, mag-size (s.args.tap *ℤ s.args.v))
 
-sum_room : (s : Start) → mag (s.args.sum +ℤ s.args.tap *ℤ s.args.v) < 2 ^ 31
-sum_room s =
+beside : (s : Start) → mag (s.args.sum +ℤ s.args.tap *ℤ s.args.v) < 2 ^ 31
+beside s =
     let p = s.args.tap *ℤ s.args.v in
     omega (arith, s.requires.room, mag-size (s.args.sum +ℤ p), size-add s.args.sum p)
 
-pub as_16_bits-requires : goal.as_16_bits-requires
-as_16_bits-requires c = rw (number (goal.at.as_16_bits-requires c).Start) (c.requires.narrowed c.if-narrow.true)
+-- the product and the sum, as they are computed
+product : (s : Start) → to_z w32 (of_z w32 (to_z w32 (of_z w32 s.args.tap) *ℤ s.args.v)) ≡ s.args.tap *ℤ s.args.v
+product s = rw (back w32 s.args.tap s.ranges.tap.sfits) (back w32 (s.args.tap *ℤ s.args.v) (alone s))
+
+sum : (s : Start) → to_z w32 (of_z w32 (to_z w32 (of_z w32 s.args.sum) +ℤ s.args.tap *ℤ s.args.v)) ≡ s.args.sum +ℤ s.args.tap *ℤ s.args.v
+sum s = rw (back w32 s.args.sum s.ranges.sum.sfits) (back w32 (s.args.sum +ℤ s.args.tap *ℤ s.args.v) (beside s))
 
 -- the number as 16 bits
-shortened : (c : After-as_16_bits) → to_z w32 (of_z w32 c.as_16_bits.result) ≡ c.args.v
-shortened c = back w32 _ c.as_16_bits.type_inv ∙ c.as_16_bits.ensures ∙ number c.before.before
+shortened : (c : After-from) → to_z w32 (of_z w32 c.from.result) ≡ c.args.v
+shortened c =
+    let v = c.args.v in
+    let small : mag v < 2 ^ 15 = omega (arith, c.requires.narrowed c.if-narrow.true, mag-size v) in
+    back w32 _ c.from.type_inv ∙ c.from.ensures ∙ rw (back w32 v c.ranges.v.sfits) (back w16 v small)
 
-pub mul-requires : goal.mul-requires
-mul-requires c = rw (tap (goal.at.mul-requires c).Start, shortened (goal.at.mul-requires c).After-as_16_bits) (product-room (goal.at.mul-requires c).Start)
-
-product : (c : After-mul) → to_z w32 (of_z w32 c.mul.result) ≡ c.args.tap *ℤ c.args.v
-product c = back w32 _ c.mul.type_inv ∙ c.mul.ensures ∙ rw (tap c.before.before.before, shortened c.before) refl
-
-pub add-requires : goal.add-requires
-add-requires c =
-    rw (back w32 c.args.sum c.ranges.sum.sfits, product (goal.at.add-requires c).After-mul) (sum_room (goal.at.add-requires c).Start)
+pub overflow_add-result : goal.overflow_add-result
+overflow_add-result c =
+    let s = (goal.at.overflow_add-result c).Start in
+    rw (shortened (goal.at.overflow_add-result c).After-from, product s, back w32 c.args.sum c.ranges.sum.sfits) (record { sfits = beside s })
 
 pub returns-then-narrow : goal.returns-then-narrow
 returns-then-narrow c =
-    back w32 _ c.add.type_inv ∙ c.add.ensures ∙ rw (back w32 c.args.sum c.ranges.sum.sfits, product (goal.at.returns-then-narrow c).After-mul) refl
+    let s = (goal.at.returns-then-narrow c).Start in
+    rw (shortened (goal.at.returns-then-narrow c).After-from, product s) (sum s)
 
-pub mul-requires-2 : goal.mul-requires-2
-mul-requires-2 c = rw (tap (goal.at.mul-requires-2 c).Start, number (goal.at.mul-requires-2 c).Start) (product-room (goal.at.mul-requires-2 c).Start)
-
-product-2 : (c : After-mul-2) → to_z w32 (of_z w32 c.mul-2.result) ≡ c.args.tap *ℤ c.args.v
-product-2 c = back w32 _ c.mul-2.type_inv ∙ c.mul-2.ensures ∙ rw (tap c.before.before, number c.before.before) refl
-
-pub add-requires-2 : goal.add-requires-2
-add-requires-2 c =
-    rw (back w32 c.args.sum c.ranges.sum.sfits, product-2 (goal.at.add-requires-2 c).After-mul-2) (sum_room (goal.at.add-requires-2 c).Start)
+pub overflow_add-result-2 : goal.overflow_add-result-2
+overflow_add-result-2 c =
+    let s = (goal.at.overflow_add-result-2 c).Start in
+    rw (back w32 c.args.v c.ranges.v.sfits, product s, back w32 c.args.sum c.ranges.sum.sfits) (record { sfits = beside s })
 
 pub returns : goal.returns
 returns c =
-    back w32 _ c.add-2.type_inv ∙ c.add-2.ensures ∙ rw (back w32 c.args.sum c.ranges.sum.sfits, product-2 (goal.at.returns c).After-mul-2) refl
+    let s = (goal.at.returns c).Start in
+    rw (back w32 c.args.v c.ranges.v.sfits, product s) (sum s)

@@ -1,22 +1,18 @@
-use mathlib.Core.Path.{◌≡◌, refl, sym, ◌∙◌}
+use mathlib.Core.Path.{◌≡◌, sym, ◌∙◌}
 use Prim.Native.Nat.{◌+◌}
 use native.Mathlib.Omega.{arith}
 use lib.IntN.{pos}
-use lib.ListN.{get_or, length-set}
+use lib.ListN.{get_or}
 use mir.Syntax.{w32}
 use Rattle.base.proofs.RangeLaws.{back}
 use Rattle.lines.proofs.BuffersLaws.{ends, ends-none, ends_more, ends-clamped, ends-kept}
 use Rattle.lines.proofs.buffers.extend.Goals as goal
 
 pub loop-i-init : goal.loop-i-init
-loop-i-init c = (omega arith, refl, sym (ends-none _ _ _ _ _))
-
-pub bounds-all-base-in-loop-i : goal.bounds-all-base-in-loop-i
-bounds-all-base-in-loop-i c = simp length-set (omega arith)
+loop-i-init c = sym (ends-none _ _ _ _ _)
 
 pub loop-i-preserved : goal.loop-i-preserved
-loop-i-preserved c =
-    (omega arith, simp length-set c.loop-i.invariant.1, rw c.loop-i.invariant.2 (ends_more _ _ _ _ _ _ (omega arith)))
+loop-i-preserved c = rw c.loop-i.invariant (ends_more _ _ _ _ _ _ (omega arith))
 
 pub returns : goal.returns
 returns c =
@@ -24,7 +20,7 @@ returns c =
     let halves = args.halves.now in
     let four : c.loop-i.i ≡ 4 = omega arith in
     let all : c.loop-i.all ≡ ends halves args.base args.half 4 (get_or halves (args.base + 4) (pos 0)) (get_or halves (args.base + args.half + 3) (pos 0)) =
-    c.loop-i.invariant.2
+    c.loop-i.invariant
     ∙ rw (
       four,
       back w32 (get_or halves (args.base + 4) (pos 0)) c.first-1.given,

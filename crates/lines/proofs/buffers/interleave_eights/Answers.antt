@@ -1,4 +1,4 @@
-use mathlib.Core.Path.{◌≡◌, refl, sym, ◌∙◌}
+use mathlib.Core.Path.{◌≡◌, sym, ◌∙◌}
 use Prim.Native.Nat.{ℕ, ◌+◌, ◌*◌, ◌<◌}
 use native.Mathlib.Nat.{zero-add}
 use native.Mathlib.Omega.{arith}
@@ -10,13 +10,7 @@ use Rattle.lines.proofs.buffers.interleave_eights.Goals as goal
 use Rattle.lines.proofs.buffers.interleave_eights.Goals.{After-interleave_part}
 
 pub loop-i-init : goal.loop-i-init
-loop-i-init c = (omega arith, refl, sym (fill_none _ _ _))
-
-pub slice_bounds-copy-end : goal.slice_bounds-copy-end
-slice_bounds-copy-end c = sym c.interleave_part.auto.plane
-
-pub copy-requires : goal.copy-requires
-copy-requires c = omega (arith, c.interleave_part.auto.plane)
+loop-i-init c = sym (fill_none _ _ _)
 
 -- the eight numbers that a turn copies are the next of the row
 copied : (c : After-interleave_part) (k : ℕ) → k < 8
@@ -26,18 +20,5 @@ copied c k h = rw (zero-add k, c.interleave_part.ensures) (get_d-fill-start _ _ 
 
 pub loop-i-preserved : goal.loop-i-preserved
 loop-i-preserved c =
-    let more : 8 * (c.loop-i.i + 1) ≡ 8 * c.loop-i.i + 8 = omega arith in (
-      omega arith,
-      c.copy.auto.plane ∙ c.loop-i.invariant.1,
-      c.copy.ensures
-          ∙ fill-same _ _ _ _ 8 (copied (goal.at.loop-i-preserved c).After-interleave_part)
-          ∙ rw (c.loop-i.invariant.2, more) (fill-append _ _ _ (8 * c.loop-i.i) 8),
-    )
-
-pub shape_of-plane : goal.shape_of-plane
-shape_of-plane c = c.loop-i.invariant.1
-
-pub returns : goal.returns
-returns c =
-    let all : c.loop-i.i ≡ c.args.eights = omega arith in
-    c.loop-i.invariant.2 ∙ rw all refl
+    let more : 8 * (c.loop-i.i + 1) ≡ 8 * c.loop-i.i + 8 = omega arith in
+    c.copy.ensures ∙ fill-same _ _ _ _ 8 (copied (goal.at.loop-i-preserved c).After-interleave_part) ∙ rw (c.loop-i.invariant, more) (fill-append _ _ _ (8 * c.loop-i.i) 8)

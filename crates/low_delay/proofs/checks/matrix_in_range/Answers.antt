@@ -1,35 +1,23 @@
-use mathlib.Core.Path.{◌≡◌, sym, ◌∙◌}
-use native.Mathlib.Omega.{arith}
-use borrow.Author.Tests.{lt-leb, le-leb}
-use Rattle.base.proofs.Booleans.{and-true}
-use Rattle.base.proofs.EveryLaws.{all_none, all_more, all-not}
-use Rattle.component.specs.Subbands.{subband_count}
+-- `low_delay::checks::matrix_in_range` meets its contract: the entry of every subband is looked at.
+use Rattle.std.proofs.Common.{◌≡◌, ℕ, ◌<◌, ◌≤◌, Bool, List, rules, ◌↔◌, IsTrue, get_or, length, take, EachIndex, slice_index}
+use Rattle.std.proofs.lemmas.List.{get_or-take}
+use lib.Dec.{leb}
+use Rattle.base.specs.Every.{all_below}
+use Rattle.slices.proofs.AreasLaws.{all-most}
 use Rattle.low_delay.specs.Job.{matrix_in_range}
 use Rattle.low_delay.proofs.checks.matrix_in_range.Goals as goal
 
-pub subband_count-count-requires : goal.subband_count-count-requires
-subband_count-count-requires c = c.requires
-
-pub loop-k-init : goal.loop-k-init
-loop-k-init c = (omega arith, all_none _)
-
-pub offset_bounds-matrix-k : goal.offset_bounds-matrix-k
-offset_bounds-matrix-k c = omega (arith, c.subband_count-count.ensures, c.requires)
-
-pub bounds-matrix-k : goal.bounds-matrix-k
-bounds-matrix-k c = omega (arith, c.subband_count-count.ensures, c.requires)
-
-pub returns-then-matrix-k-gt-MATRIX_MOST : goal.returns-then-matrix-k-gt-MATRIX_MOST
-unfolding matrix_in_range
-returns-then-matrix-k-gt-MATRIX_MOST c =
-    sym (all-not _ _ c.loop-k.k (omega (arith, c.subband_count-count.ensures)) (lt-leb _ _ c.if-matrix-k-gt-MATRIX_MOST.true))
-
-pub loop-k-preserved : goal.loop-k-preserved
-loop-k-preserved c =
-    (omega arith, all_more _ c.loop-k.k ∙ and-true _ _ c.loop-k.invariant.1 (le-leb _ _ c.if-matrix-k-gt-MATRIX_MOST.false))
+-- a test of the first n entries of a list, from one of those taken
+all-taken : (l : List ℕ) (n most : ℕ) (b : Bool) → length (take n l) ≡ n → (IsTrue b ↔ EachIndex (take n l) (λ k. slice_index (take n l) k ≤ most)) → b ≡ all_below n (λ k. leb (get_or l k 0) most)
+all-taken l n most b long each =
+    all-most (λ k. get_or l k 0) n most b (
+      (λ yes k h. rw (get_or-take n l k 0 h) at (each.0 yes k (rw long h))),
+      (λ all. each.1 (λ k h. let below : k < n = rw long at h in rw (get_or-take n l k 0 below) (all k below))),
+    )
 
 pub returns : goal.returns
 unfolding matrix_in_range
 returns c =
-    let all : c.loop-k.k ≡ subband_count c.args.p.depth = omega (arith, c.subband_count-count.ensures) in
-    sym (rw all at c.loop-k.invariant.1)
+    let long : length (take c.subband_count-count.result c.args.p.matrix) ≡ c.subband_count-count.result = search rules in
+    let each : IsTrue c.all.result ↔ EachIndex (take c.subband_count-count.result c.args.p.matrix) (λ k. slice_index (take c.subband_count-count.result c.args.p.matrix) k ≤ 127) = search rules in
+    rw (← c.subband_count-count.ensures) (all-taken _ _ _ _ long each)

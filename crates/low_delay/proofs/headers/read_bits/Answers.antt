@@ -1,5 +1,5 @@
 use mathlib.Core.Path.{◌≡◌}
-use Prim.Native.Nat.{◌+◌, ◌/◌, ◌^◌, ◌<◌}
+use Prim.Native.Nat.{◌+◌, ◌^◌, ◌<◌}
 use native.Mathlib.Omega.{arith}
 use lib.Pow.{pow_mono}
 use Rattle.exp_golomb.specs.Bits.{bit_at}
@@ -10,9 +10,6 @@ use Rattle.low_delay.proofs.headers.read_bits.Goals.{In-loop-i}
 
 pub loop-i-init : goal.loop-i-init
 loop-i-init c = (omega arith, bits_none _ _)
-
-pub overflow_cast-byte : goal.overflow_cast-byte
-overflow_cast-byte c = omega (arith, c.type_inv.bytes ((c.args.at + c.loop-i.i) / 8))
 
 -- the bits so far are few
 few : (c : In-loop-i) → c.loop-i.v < 2 ^ 32
@@ -30,7 +27,7 @@ pub loop-i-preserved : goal.loop-i-preserved
 unfolding bit_at
 loop-i-preserved c =
     let i = c.loop-i.i in
-    (omega arith, omega (arith, c.loop-i.invariant.1, bits-split c.args.bytes.now c.args.at i 1, one_bit c.args.bytes.now (c.args.at + i)))
+    (omega arith, rw c.from.ensures (omega (arith, c.loop-i.invariant.1, bits-split c.args.bytes.now c.args.at i 1, one_bit c.args.bytes.now (c.args.at + i))))
 
 pub returns : goal.returns
 returns c =

@@ -1,110 +1,59 @@
-use mathlib.Core.Path.{refl, ◌∙◌}
-use native.Mathlib.Nat.{mul-le-mul}
+use mathlib.Core.Path.{◌≡◌, refl, ◌∙◌}
+use Prim.Native.Nat.{ℕ}
 use native.Mathlib.Omega.{arith}
+use Rattle.std.specs.Prelude.{Result, Err}
+use Rattle.std.proofs.lemmas.Result.{err_from_is_err_and}
+use Rattle.base.specs.declared.status.Fault.{Fault}
 use Rattle.coefficients.specs.Reading.{goes_on}
 use Rattle.coefficients.specs.Scaling.{scale_of}
-use Rattle.slices.specs.Planes.{planes_of}
 use Rattle.slices.specs.Parts.{area_values}
+use Rattle.slices.specs.Stores.{planes_behind}
 use Rattle.slices.specs.Reads.{data_of, row_of, Left}
-use Rattle.slices.proofs.StoresLaws.{row-few, row_inside, fits-row, fits-same}
-use Rattle.slices.proofs.ReadsLaws.{walked_none, walked_more, walked_stop, walked_all, area-stays, area-rows, span-again, left-again}
+use Rattle.slices.proofs.StoresLaws.{same_planes-then}
+use Rattle.slices.proofs.ReadsLaws.{walked_none, walked_more, walked_stop, walked_all, area-stays, area-rows, left-again}
 use Rattle.slices.proofs.parts.read_area.Goals as goal
-use Rattle.slices.proofs.parts.read_area.Goals.{After-read_rows-progress}
-
-pub overflow_mul-area : goal.overflow_mul-area
-overflow_mul-area c =
-    let fits = c.requires.0 in
-    omega (arith, mul-le-mul fits.tall fits.narrow)
-
-pub values_of-requires : goal.values_of-requires
-values_of-requires c =
-    let fits = c.requires.0 in
-    omega (arith, mul-le-mul fits.tall fits.narrow)
-
-pub read_rows-requires : goal.read_rows-requires
-read_rows-requires c =
-    record { fits = (c.requires.0, rw c.values_of.ensures at c.if-values_of-le-RUN.true); reads = (c.requires.1, c.requires.2, c.requires.3) }
-
-pub returns-then-values_of-le-RUN : goal.returns-then-values_of-le-RUN
-returns-then-values_of-le-RUN c = c.read_rows.ensures
+use Rattle.slices.proofs.parts.read_area.Goals.{After-read_rows-in-loop-y}
 
 pub loop-y-init : goal.loop-y-init
 loop-y-init c =
-    (omega arith, refl, refl, refl, refl, c.requires.2, refl, refl, c.requires.1.before_end, walked_none _ (λ k. area-stays _ _ _ _) c.args.piece.span.end _ _ _ refl)
-
-pub row_of-requires : goal.row_of-requires
-row_of-requires c = omega (arith, row_inside _ _ _ _ _ c.requires.0 _ c.loop-y-test.true)
-
-pub read_rows-progress-requires : goal.read_rows-progress-requires
-read_rows-progress-requires c =
-    let inv = c.loop-y.invariant in
-    rw c.row_of.ensures (record { fits = (fits-same _ _ _ _ _ _ inv.1 inv.2 inv.3 _ _ (fits-row _ _ _ _ _ c.requires.0 _ c.loop-y-test.true), row-few c.args.piece.holder c.args.piece.area.width c.requires.0.narrow); reads = (span-again _ _ inv.6 inv.7 inv.8 c.requires.1, inv.5, c.requires.3) })
+    (omega arith, ((refl, refl, refl), (refl, refl, refl)), refl, c.requires.2, refl, refl, refl, refl, c.requires.1.before_end, walked_none _ (λ k. area-stays _ _ _ _) c.args.piece.span.end _ _ _ refl)
 
 -- what the row left
-row-left : (c : After-read_rows-progress) →
-    let args = c.args in
-    Left args.piece.span.end c.read_rows-progress.result (planes_of c.read_rows-progress.new.luma c.read_rows-progress.new.first c.read_rows-progress.new.second) c.read_rows-progress.new.run
-    (area_values (data_of args.bytes.now args.piece.span) (scale_of args.piece.q) args.piece.holder (row_of args.piece.area c.loop-y.y)
-    (goes_on c.loop-y.span.bit (planes_of c.loop-y.luma c.loop-y.first c.loop-y.second)))
-row-left c =
+row-left : (c : After-read_rows-in-loop-y) (result : Result ℕ Fault) → c.read_rows-in-loop-y.result ≡ result →
+    let piece = c.args.piece in
+    let row = c.read_rows-in-loop-y in
+    Left piece.span.end result (planes_behind row.new.planes) row.new.run
+    (area_values (data_of c.args.bytes.now piece.span) (scale_of piece.decoder.q) piece.holder (row_of piece.area c.loop-y.y) (goes_on c.loop-y.row.span.bit (planes_behind c.loop-y.planes)))
+row-left c result is =
     let inv = c.loop-y.invariant in
-    left-again _ _ _ inv.6 inv.7 _ _ _ _ _ _ _ (rw c.row_of.ensures at c.read_rows-progress.ensures)
+    left-again _ _ _ inv.6 inv.7 _ _ _ _ _ _ _ (rw (is, c.row_of-row.ensures, inv.4, inv.5) at c.read_rows-in-loop-y.ensures.read)
 
-pub shape_of-luma-in_default : goal.shape_of-luma-in_default
-shape_of-luma-in_default c = c.read_rows-progress.auto.luma ∙ c.loop-y.invariant.1
-
-pub shape_of-first-in_default : goal.shape_of-first-in_default
-shape_of-first-in_default c = c.read_rows-progress.auto.first ∙ c.loop-y.invariant.2
-
-pub shape_of-second-in_default : goal.shape_of-second-in_default
-shape_of-second-in_default c = c.read_rows-progress.auto.second ∙ c.loop-y.invariant.3
-
-pub shape_of-run-in_default : goal.shape_of-run-in_default
-shape_of-run-in_default c = c.read_rows-progress.auto.run ∙ c.loop-y.invariant.4
-
-pub returns-in_default : goal.returns-in_default
-returns-in_default c =
-    rw (← area-rows (data_of c.args.bytes.now c.args.piece.span) (scale_of c.args.piece.q) c.args.piece.holder c.args.piece.area _)
-    (walked_stop _ (λ k. area-stays _ _ _ _) _ _ c.loop-y.y _ _ _ _ _ c.read_rows-progress.result _ _ c.loop-y-test.true c.loop-y.invariant.9 c.in_default.is (row-left (goal.at.returns-in_default c).After-read_rows-progress))
-
-pub overflow_add-y : goal.overflow_add-y
-overflow_add-y c = omega (arith, c.loop-y-test.true, c.requires.0.tall)
-
-pub loop-y-smaller : goal.loop-y-smaller
-loop-y-smaller c = omega (arith, c.loop-y-test.true)
+pub returns-in_err-row-clause-read : goal.returns-in_err-row-clause-read
+returns-in_err-row-clause-read c =
+    let refused = err_from_is_err_and c.from_residual.result c.from_residual.ensures.1 in
+    let left = row-left (goal.at.returns-in_err-row-clause-read c).After-read_rows-in-loop-y (Err refused.0) (rw refused.2 c.in_err-row.was) in
+    rw (refused.1, ← area-rows (data_of c.args.bytes.now c.args.piece.span) (scale_of c.args.piece.decoder.q) c.args.piece.holder c.args.piece.area _)
+    (walked_stop _ (λ k. area-stays _ _ _ _) _ _ c.loop-y.y _ _ _ _ _ _ c.loop-y-test.true c.loop-y.invariant.9 left)
 
 pub loop-y-preserved : goal.loop-y-preserved
 loop-y-preserved c =
     let inv = c.loop-y.invariant in
-    let kept = c.read_rows-progress.auto in
-    let left = row-left (goal.at.loop-y-preserved c).After-read_rows-progress in
-    let told = c.in-At.is in (
+    let row = c.read_rows-in-loop-y in
+    let left = row-left (goal.at.loop-y-preserved c).After-read_rows-in-loop-y _ c.in_ok-row.was in (
       omega (arith, c.loop-y-test.true),
-      kept.luma ∙ inv.1,
-      kept.first ∙ inv.2,
-      kept.second ∙ inv.3,
-      kept.run ∙ inv.4,
-      left.run_blank _ told,
+      same_planes-then c.args.planes.now c.loop-y.planes row.new.planes inv.1 row.ensures.same,
+      row.auto.run ∙ inv.2,
+      left.run_blank _ refl,
+      inv.4,
+      inv.5,
       inv.6,
       inv.7,
-      left.before_end _ told,
-      walked_more _ (λ k. area-stays _ _ _ _) _ _ c.loop-y.y _ _ _ _ c.read_rows-progress.result _ inv.9 told left,
+      left.before_end _ refl,
+      walked_more _ (λ k. area-stays _ _ _ _) _ _ c.loop-y.y _ _ _ _ _ inv.9 left,
     )
 
-pub shape_of-luma : goal.shape_of-luma
-shape_of-luma c = c.loop-y.invariant.1
-
-pub shape_of-first : goal.shape_of-first
-shape_of-first c = c.loop-y.invariant.2
-
-pub shape_of-second : goal.shape_of-second
-shape_of-second c = c.loop-y.invariant.3
-
-pub shape_of-run : goal.shape_of-run
-shape_of-run c = c.loop-y.invariant.4
-
-pub returns : goal.returns
-returns c =
+pub returns-clause-read : goal.returns-clause-read
+returns-clause-read c =
     let inv = c.loop-y.invariant in
-    rw (← area-rows (data_of c.args.bytes.now c.args.piece.span) (scale_of c.args.piece.q) c.args.piece.holder c.args.piece.area _)
-    (walked_all _ (λ k. area-stays _ _ _ _) _ _ c.loop-y.y _ _ _ _ (omega (arith, inv.0, c.loop-y-test.false)) inv.9 inv.8 inv.5)
+    rw (← area-rows (data_of c.args.bytes.now c.args.piece.span) (scale_of c.args.piece.decoder.q) c.args.piece.holder c.args.piece.area _)
+    (walked_all _ (λ k. area-stays _ _ _ _) _ _ c.loop-y.y _ _ _ _ (omega (arith, inv.0, c.loop-y-test.false)) inv.9 inv.8 inv.3)

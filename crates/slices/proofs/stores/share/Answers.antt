@@ -1,4 +1,4 @@
-use mathlib.Core.Path.{◌≡◌, refl, sym, ◌∙◌}
+use mathlib.Core.Path.{refl, sym}
 use Prim.Native.Nat.{◌+◌, ◌*◌}
 use native.Mathlib.Omega.{arith}
 use lib.IntN.{pos}
@@ -22,15 +22,3 @@ loop-x-preserved c =
       rw (back w32 (get_or args.source.now (args.from + 2 * c.loop-x.x) (pos 0)) (search rules), inv.3) (fill_more _ _ _ _ _ refl),
       rw (back w32 (get_or args.source.now (args.from + 2 * c.loop-x.x + 1) (pos 0)) (search rules), inv.4) (fill_more _ _ _ _ _ refl),
     )
-
-pub shape_of-first : goal.shape_of-first
-shape_of-first c = c.loop-x.invariant.1
-
-pub shape_of-second : goal.shape_of-second
-shape_of-second c = c.loop-x.invariant.2
-
-pub returns : goal.returns
-returns c =
-    let inv = c.loop-x.invariant in
-    let all : c.loop-x.x ≡ c.args.n = omega arith in
-    record { first_after = inv.3 ∙ rw all refl; second_after = inv.4 ∙ rw all refl }

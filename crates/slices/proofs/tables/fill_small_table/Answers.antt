@@ -1,20 +1,9 @@
-use mathlib.Core.Path.{◌≡◌, ◌∙◌}
+use mathlib.Core.Path.{◌∙◌}
 use native.Mathlib.Omega.{arith}
 use lib.ListN.{length-set}
-use Rattle.slices.proofs.BoundsLaws.{small-none, small-more}
+use Rattle.slices.proofs.BoundsLaws.{small-more}
 use Rattle.slices.proofs.tables.fill_small_table.Goals as goal
-
-pub loop-index-init : goal.loop-index-init
-loop-index-init c = (omega arith, c.requires, small-none _ _)
-
-pub small_values-requires : goal.small_values-requires
-small_values-requires c = c.quantiser_of-q.ensures.1
 
 pub loop-index-preserved : goal.loop-index-preserved
 loop-index-preserved c =
-    (omega arith, length-set c.loop-index.table c.loop-index.index c.small_values.result ∙ c.loop-index.invariant.1, small-more _ c.loop-index.index c.loop-index.table c.small_values.result c.quantiser_of-q.result (omega (arith, c.loop-index.invariant.1)) c.loop-index.invariant.2 c.quantiser_of-q.ensures.0 c.small_values.ensures)
-
-pub returns : goal.returns
-returns c =
-    let all : c.loop-index.index ≡ 116 = omega arith in
-    rw all at c.loop-index.invariant.2
+    (omega arith, length-set c.loop-index.table c.loop-index.index c.small_values.result ∙ c.loop-index.invariant.1, small-more _ c.loop-index.index c.loop-index.table c.small_values.result c.quantiser_of.result (omega (arith, c.loop-index.invariant.1)) c.loop-index.invariant.2 c.quantiser_of.ensures c.small_values.ensures)

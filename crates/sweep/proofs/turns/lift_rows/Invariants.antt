@@ -1,7 +1,4 @@
 -- `sweep::turns::lift_rows` meets its contract: after some turns the rows of as many pairs are those that the step makes of the whole plane.
-use mathlib.Core.Path.{◌≡◌}
-use Prim.Native.Nat.{◌-◌, ◌≤◌}
-use lib.ListN.{length}
 use Rattle.lifting.specs.Lines.{new_row_fits}
 use Rattle.sweep.specs.Pairs.{EachPair, FramePut}
 use Rattle.sweep.specs.Turns.{stepped}
@@ -9,11 +6,5 @@ use Rattle.sweep.proofs.turns.lift_rows.Given as goal
 
 abbrev pub invariant-loop-k : goal.invariant-loop-k
 invariant-loop-k l =
-    (l.from ≤ l.k)
-    × (l.k ≤ l.to)
-    × (length l.work ≡ length l.initial.work)
-    × EachPair l.from l.k (new_row_fits l.frame l.step l.initial.work)
+    EachPair l.from l.k (new_row_fits l.frame l.step l.initial.work)
     × FramePut l.frame l.from l.k (stepped l.frame l.step l.initial.work) l.initial.work l.work
-
-abbrev pub decreases-loop-k : goal.decreases-loop-k
-decreases-loop-k l = l.to - l.k

@@ -1,4 +1,3 @@
-use mathlib.Core.Path.{refl, ◌∙◌}
 use Prim.Native.Nat.{◌+◌, ◌*◌, ◌≤◌}
 use native.Mathlib.Omega.{arith}
 use lib.IntN.{pos}
@@ -7,9 +6,6 @@ use Rattle.base.proofs.Grids.{row-end, rows-stored}
 use Rattle.filters.specs.Planes.{picture_of}
 use Rattle.transform.proofs.bands.copy_rows.Goals as goal
 use Rattle.transform.proofs.bands.copy_rows.Goals.{In-loop-row}
-
-pub loop-row-init : goal.loop-row-init
-loop-row-init c = (omega arith, refl, λ r x below inside. absurd (omega arith))
 
 -- the rows that a turn copies lie within their planes
 to_end : (c : In-loop-row) → c.loop-row.row * c.args.to_stride + c.args.columns ≤ length c.args.to.now
@@ -27,20 +23,14 @@ pub overflow_mul-from_row : goal.overflow_mul-from_row
 overflow_mul-from_row c = omega (arith, from_end (goal.at.overflow_mul-from_row c).In-loop-row)
 
 pub copy-requires : goal.copy-requires
-copy-requires c = (omega (arith, to_end (goal.at.copy-requires c).In-loop-row, c.loop-row.invariant.1), from_end (goal.at.copy-requires c).In-loop-row)
+copy-requires c = (omega (arith, to_end (goal.at.copy-requires c).In-loop-row, c.loop-row.auto.to), from_end (goal.at.copy-requires c).In-loop-row)
 
 pub loop-row-preserved : goal.loop-row-preserved
-loop-row-preserved c = (
-  omega arith,
-  c.copy.auto.plane ∙ c.loop-row.invariant.1,
-  rw c.copy.ensures
-      (rows-stored c.loop-row.to c.args.to_stride c.loop-row.row c.args.columns (λ r x. get_or c.args.from.now (r * c.args.from_stride + x) (pos 0)) (pos 0)
-      c.requires.columns_le_to_stride.0 (omega (arith, to_end (goal.at.loop-row-preserved c).In-loop-row, c.loop-row.invariant.1)) c.loop-row.invariant.2),
-)
-
-pub shape_of-to : goal.shape_of-to
-shape_of-to c = c.loop-row.invariant.1
+loop-row-preserved c =
+    rw c.copy.ensures
+    (rows-stored c.loop-row.to c.args.to_stride c.loop-row.row c.args.columns (λ r x. get_or c.args.from.now (r * c.args.from_stride + x) (pos 0)) (pos 0)
+    c.requires.columns_le_to_stride.0 (omega (arith, to_end (goal.at.loop-row-preserved c).In-loop-row, c.loop-row.auto.to)) c.loop-row.invariant)
 
 pub returns : goal.returns
 unfolding picture_of
-returns c = λ row column below inside. c.loop-row.invariant.2 row column (omega arith) inside
+returns c = λ row column below inside. c.loop-row.invariant row column (omega arith) inside

@@ -4,6 +4,7 @@ use Rattle.std.proofs.Common.{◌≡◌, true, false, suc, ◌-◌, ◌≤◌, �
 use mathlib.Core.Path.{refl, sym, ◌∙◌, subst}
 use native.Mathlib.Omega.{arith}
 use lib.IntN.{ℤ}
+use Rattle.std.proofs.lemmas.Result.{err_from_is_err_and}
 use Rattle.base.proofs.ListsLaws.{zeros-length}
 use Rattle.component.specs.Sizes.{size_at}
 use Rattle.filters.specs.Filters.{Filter}
@@ -37,11 +38,11 @@ module _ (e : Extent) (lf : LiftingFilter) (given work : List ℤ) (g : Geometry
   below-deep = omega (arith, deep, some)
 
   -- the levels below do not fit
-  fails-below : (bad : ℕ) → bad ≡ first-bad below → (bad ≡ 0 → ⊥) → bad ≡ first-bad n
+  fails-below : (bad : ℕ) → first-bad below ≡ bad → (bad ≡ 0 → ⊥) → first-bad n ≡ bad
   fails-below bad told wrong =
-      told
-      ∙ subst (λ (k : ℕ). first-bad below ≡ first-bad k) some
-      (bad-below filter e.low_rows e.low_columns g.rows_least g.columns_least coefficients below (λ none. wrong (told ∙ none)))
+      subst (λ (k : ℕ). first-bad k ≡ first-bad below) some
+      (sym (bad-below filter e.low_rows e.low_columns g.rows_least g.columns_least coefficients below (λ none. wrong (sym told ∙ none))))
+      ∙ told
 
   -- The picture below stands in the work plane.
   module _ (rest samples : List ℤ) (stood : Stands e below (picture below) work rest samples) where
@@ -72,28 +73,33 @@ module _ (e : Extent) (lf : LiftingFilter) (given work : List ℤ) (g : Geometry
         })
 
   -- the levels below fit, and this one does or does not
-  fits-here : 0 ≡ first-bad below → level_fits filter e.low_rows e.low_columns coefficients below ≡ true → 0 ≡ first-bad n
+  fits-here : first-bad below ≡ 0 → level_fits filter e.low_rows e.low_columns coefficients below ≡ true → first-bad n ≡ 0
   fits-here good fits =
-      subst (λ (k : ℕ). 0 ≡ first-bad k) some
-      (bad-none filter e.low_rows e.low_columns g.rows_least g.columns_least coefficients below (sym good) fits)
+      subst (λ (k : ℕ). first-bad k ≡ 0) some
+      (sym (bad-none filter e.low_rows e.low_columns g.rows_least g.columns_least coefficients below good fits))
 
-  fails-here : 0 ≡ first-bad below → level_fits filter e.low_rows e.low_columns coefficients below ≡ false → n ≡ first-bad n
+  fails-here : first-bad below ≡ 0 → level_fits filter e.low_rows e.low_columns coefficients below ≡ false → first-bad n ≡ n
   fails-here good fails =
-      subst (λ (k : ℕ). k ≡ first-bad k) some
-      (bad-here filter e.low_rows e.low_columns g.rows_least g.columns_least coefficients below (sym good) fails)
+      subst (λ (k : ℕ). first-bad k ≡ k) some
+      (sym (bad-here filter e.low_rows e.low_columns g.rows_least g.columns_least coefficients below good fails))
 
 pub returns-then-n-eq0 : goal.returns-then-n-eq0
 unfolding first_bad_level synthesis
 returns-then-n-eq0 t c =
-    record { told = rw c.if-n-eq0.true refl; done = λ yes. rw c.if-n-eq0.true c.put_low_band.ensures }
+    record { told = rw c.if-n-eq0.true refl; done = rw c.if-n-eq0.true c.put_low_band.ensures }
 
-pub returns-then-bad-ne0-clause-told : goal.returns-then-bad-ne0-clause-told
-returns-then-bad-ne0-clause-told t c =
-    fails-below c.args.extent c.args.filter c.args.coefficients.now c.args.work.now c.requires.planes.0 c.args.n c.requires.well_formed.1 (omega (arith, c.if-n-eq0.false))
-    _ c.synthesise_levels-bad.ensures.told c.if-bad-ne0.true
+pub returns-in_err-synthesise_levels-clause-told : goal.returns-in_err-synthesise_levels-clause-told
+returns-in_err-synthesise_levels-clause-told t c =
+    let failed = err_from_is_err_and c.from_residual.result c.from_residual.ensures.1 in
+    let bad = c.in_err-synthesise_levels.ensures.told in
+    rw (failed.1, failed.2) (
+      fails-below c.args.extent c.args.filter c.args.coefficients.now c.args.work.now c.requires.planes.0 c.args.n c.requires.well_formed.1 (omega (arith, c.if-n-eq0.false))
+          _ bad.0 bad.1,
+      bad.1,
+    )
 
-pub returns-then-synthesise_level : goal.returns-then-synthesise_level
-returns-then-synthesise_level t c =
+pub returns-in-Ok : goal.returns-in-Ok
+returns-in-Ok t c =
     let e = c.args.extent in
     let f = c.args.filter in
     let given = c.args.coefficients.now in
@@ -102,17 +108,16 @@ returns-then-synthesise_level t c =
     let n = c.args.n in
     let deep = c.requires.well_formed.1 in
     let some : suc (c.args.n - 1) ≡ c.args.n = omega (arith, c.if-n-eq0.false) in
-    let bad = c.synthesise_levels-bad in
-    let good = sym c.if-bad-ne0.false ∙ bad.ensures.told in
-    let stood = bad.ensures.done c.if-bad-ne0.false in
-    let level = c.synthesise_level in
+    let good = c.in_ok-synthesise_levels.ensures.told in
+    let stood = c.in_ok-synthesise_levels.ensures.done in
+    let level = c.in-Ok.ensures in
     record {
-      told = fits-here e f given work g n deep some good (sym (level.ensures.told ∙ level-test e f given work g n deep some _ _ stood) ∙ c.if-synthesise_level.true);
-      done = λ yes. next-stands e f given work g n deep some _ _ stood _ _ bad.auto.work (level.ensures.done c.if-synthesise_level.true);
+      told = fits-here e f given work g n deep some good (sym (level.told ∙ level-test e f given work g n deep some _ _ stood));
+      done = next-stands e f given work g n deep some _ _ stood _ _ c.synthesise_levels.auto.work (level.done refl);
     }
 
-pub returns-else-synthesise_level-clause-told : goal.returns-else-synthesise_level-clause-told
-returns-else-synthesise_level-clause-told t c =
+pub returns-in-Err-clause-told : goal.returns-in-Err-clause-told
+returns-in-Err-clause-told t c =
     let e = c.args.extent in
     let f = c.args.filter in
     let given = c.args.coefficients.now in
@@ -121,8 +126,7 @@ returns-else-synthesise_level-clause-told t c =
     let n = c.args.n in
     let deep = c.requires.well_formed.1 in
     let some : suc (c.args.n - 1) ≡ c.args.n = omega (arith, c.if-n-eq0.false) in
-    let bad = c.synthesise_levels-bad in
-    let good = sym c.if-bad-ne0.false ∙ bad.ensures.told in
-    let stood = bad.ensures.done c.if-bad-ne0.false in
-    let level = c.synthesise_level in
-    fails-here e f given work g n deep some good (sym (level.ensures.told ∙ level-test e f given work g n deep some _ _ stood) ∙ c.if-synthesise_level.false)
+    let good = c.in_ok-synthesise_levels.ensures.told in
+    let stood = c.in_ok-synthesise_levels.ensures.done in
+    let level = c.in-Err.ensures in
+    (fails-here e f given work g n deep some good (sym (level.told ∙ level-test e f given work g n deep some _ _ stood)), c.if-n-eq0.false)

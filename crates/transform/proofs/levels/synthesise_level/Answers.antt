@@ -1,13 +1,18 @@
 -- `transform::levels::synthesise_level` meets its contract: a level that is swept is document 01's level; the rows of the component's own level are
 -- the whole work plane.
 use mathlib.Core.Path.{◌≡◌, refl, sym, ◌∙◌}
-use mathlib.Core.Bool.{Bool, true, false}
+use mathlib.Core.Bool.{Bool, true, false, false≢true}
 use mathlib.Core.List.{List}
 use Prim.Native.Nat.{ℕ, suc, ◌+◌, ◌-◌, ◌*◌, ◌^◌, ◌≤◌, ◌<◌}
 use native.Mathlib.Omega.{arith}
 use borrow.Author.Tests.{eqb-true, eq-eqb, ne_eqb}
 use lib.Dec.{eqb}
 use lib.IntN.{ℤ}
+use lib.ListN.{length}
+use Rattle.std.specs.Prelude.{is_ok, is_some}
+use Rattle.std.specs.Bool.{then_some}
+use Rattle.std.specs.Option.{unwrap_or}
+use Rattle.sweep.specs.declared.rows.Crop.{Crop}
 use Rattle.component.specs.Sizes.{size_at}
 use Rattle.filters.specs.Table.{filter_from}
 use Rattle.filters.specs.Filters.{Filter}
@@ -30,8 +35,8 @@ next_frame-frame-requires c =
 pub gap_of-gap-requires : goal.gap_of-gap-requires
 gap_of-gap-requires c = c.requires.well_formed.0
 
-pub overflow_add-finishes : goal.overflow_add-finishes
-overflow_add-finishes c = omega (arith, c.requires.well_formed.1, c.requires.planes.0.depth_most)
+pub overflow_add-below : goal.overflow_add-below
+overflow_add-below c = omega (arith, c.requires.well_formed.1, c.requires.planes.0.depth_most)
 
 -- what the level's bands and the picture below make up, by the frame and by the contract
 module _ (c : After-next_frame-frame) where
@@ -80,18 +85,27 @@ module _ (c : After-next_frame-frame) where
       let g = c.requires.planes.0 in
       (rw told.2 (rw (sym last) at g.narrower), rw told.1 (rw (sym last) at g.shorter))
 
+-- what holds of the sizes of the samples, where they are finished
+where-some : (finishes : Bool) (sizes : Crop) (P : Crop → Type 0) → (finishes ≡ true → P sizes) → is_some (then_some finishes sizes) ≡ true → P (unwrap_or (then_some finishes sizes) (record { width = 0; height = 0 }))
+where-some true sizes P holds some = holds refl
+where-some false sizes P holds wrong = absurd (false≢true wrong)
+
 pub sweep_level-requires : goal.sweep_level-requires
 sweep_level-requires c =
+    let at = (goal.at.sweep_level-requires c).After-next_frame-frame in
     let told = c.next_frame-frame.ensures in
     let gap = c.gap_of-gap.ensures in record {
       frame_fits = (
-        placed-here (goal.at.sweep_level-requires c).After-next_frame-frame,
+        placed-here at,
         c.requires.well_formed.0,
         gap.0,
         gap.1,
-        λ finishes.
+        rw c.then_some-crop.ensures
+            (where-some (eqb (c.args.below + 1) c.args.extent.depth) _
+            (λ (sizes : Crop). (sizes.width ≤ 2 * half at) × (sizes.height ≤ 2 * bands at) × (sizes.height * sizes.width ≤ length c.args.samples.now))
+            (λ finishes.
             let last : suc c.args.below ≡ c.args.extent.depth = omega (arith, eqb-true (c.args.below + 1) c.args.extent.depth finishes) in
-            ((fewer (goal.at.sweep_level-requires c).After-next_frame-frame last).0, (fewer (goal.at.sweep_level-requires c).After-next_frame-frame last).1, c.requires.planes.2),
+            ((fewer at last).0, (fewer at last).1, c.requires.planes.2))),
       );
       bands_inside = (
         rw told.2 (next-columns _ _ c.requires.planes.0 c.args.below c.requires.well_formed.1),
@@ -115,24 +129,29 @@ not_last below depth less = ne_eqb (below + 1) depth (λ e. omega arith)
 pub returns : goal.returns
 unfolding size_at picture_of
 returns c =
+    let at = (goal.at.returns c).After-next_frame-frame in
     let frame = c.next_frame-frame.result in
     let told = c.next_frame-frame.ensures in
-    let sizes = placed-here (goal.at.returns c).After-next_frame-frame in
-    let test = swept-told frame c.args.filter c.requires.well_formed.0 sizes.rows_least sizes.columns_least c.args.extent.padded_width (start-work (goal.at.returns c).After-next_frame-frame) c.args.coefficients.now in
-    let picture = swept-made frame c.args.filter c.requires.well_formed.0 sizes.rows_least sizes.columns_least c.args.extent.padded_width (start-work (goal.at.returns c).After-next_frame-frame) c.args.coefficients.now in record {
-      told = by-extent (goal.at.returns c).After-next_frame-frame (λ bh bw s s2. c.sweep_level.result ≡ fits (goal.at.returns c).After-next_frame-frame bh bw s2) (c.sweep_level.ensures.told ∙ test);
-      done = λ yes. record {
+    let placed = placed-here at in
+    let test = swept-told frame c.args.filter c.requires.well_formed.0 placed.rows_least placed.columns_least c.args.extent.padded_width (start-work at) c.args.coefficients.now in
+    let picture = swept-made frame c.args.filter c.requires.well_formed.0 placed.rows_least placed.columns_least c.args.extent.padded_width (start-work at) c.args.coefficients.now in
+    let swept = c.sweep_level.ensures in record {
+      told = by-extent at (λ bh bw s s2. is_ok c.sweep_level.result ≡ fits at bh bw s2) (swept.told ∙ test);
+      done = λ went. record {
         in_work = λ less.
-            by-extent (goal.at.returns c).After-next_frame-frame (λ bh bw s s2. Agree (2 * bh) (2 * bw) (picture_of s c.sweep_level.new.work) (made (goal.at.returns c).After-next_frame-frame bh bw s2))
-            (λ row x r i. rw (not_last _ _ less) at (c.sweep_level.ensures.done yes row x r i) ∙ picture (sym c.sweep_level.ensures.told ∙ yes) row x r i);
+            let none = rw (not_last _ _ less) at c.then_some-crop.ensures in
+            by-extent at (λ bh bw s s2. Agree (2 * bh) (2 * bw) (picture_of s c.sweep_level.new.work) (made at bh bw s2))
+            (λ row x r i. (rw none at (swept.done went)) row x r i ∙ picture (sym swept.told ∙ went) row x r i);
         in_samples = λ last.
-            let inside = fewer (goal.at.returns c).After-next_frame-frame last in
-            by-extent (goal.at.returns c).After-next_frame-frame
-            (λ bh bw s s2. Agree c.args.extent.height c.args.extent.width (picture_of c.args.extent.width c.sweep_level.new.samples) (made (goal.at.returns c).After-next_frame-frame bh bw s2))
+            let inside = fewer at last in
+            let some = rw (is_last _ _ last) at c.then_some-crop.ensures in
+            by-extent at
+            (λ bh bw s s2. Agree c.args.extent.height c.args.extent.width (picture_of c.args.extent.width c.sweep_level.new.samples) (made at bh bw s2))
             (λ row x r i.
-            c.sweep_level.ensures.finished yes (is_last _ _ last) row x r i ∙ picture (sym c.sweep_level.ensures.told ∙ yes) row x (omega (arith, inside.1)) (omega (arith, inside.0)));
+            (rw some at (swept.finished went)) refl row x r i ∙ picture (sym swept.told ∙ went) row x (omega (arith, inside.1)) (omega (arith, inside.0)));
         cleared = λ last.
-            cleared-all _ _ c.requires.planes.0 c.args.below c.requires.well_formed.1 frame told.0 told.1 told.2 last c.sweep_level.new.work (start-work (goal.at.returns c).After-next_frame-frame)
-            c.sweep_level.auto.work refl (λ row x r i. rw (is_last _ _ last) at (c.sweep_level.ensures.done yes row x r i));
+            let some = rw (is_last _ _ last) at c.then_some-crop.ensures in
+            cleared-all _ _ c.requires.planes.0 c.args.below c.requires.well_formed.1 frame told.0 told.1 told.2 last c.sweep_level.new.work (start-work at)
+            c.sweep_level.auto.work refl (λ row x r i. (rw some at (swept.done went)) row x r i);
       };
     }

@@ -2,63 +2,71 @@
 -- is a law of the header.
 use mathlib.Core.Path.{◌≡◌, sym, ◌∙◌}
 use mathlib.Core.Bool.{false}
+use mathlib.Core.List.{List}
 use Prim.Native.Nat.{ℕ, ◌*◌, ◌^◌, ◌<◌, min}
 use native.Mathlib.Omega.{arith}
 use lib.ListN.{length}
-use mathlib.Core.List.{List}
-use Rattle.exp_golomb.specs.Codes.{unsigned}
-use Rattle.exp_golomb.specs.declared.codes.Number.{Number}
-use Rattle.exp_golomb.specs.declared.codes.Number.TheVariants.{Read}
+use Rattle.std.specs.Prelude.{Ok}
+use Rattle.std.proofs.lemmas.Result.{err_from_is_err_and}
+use Rattle.exp_golomb.specs.Codes.{Number, Read, result_of, unsigned}
+use Rattle.exp_golomb.specs.declared.codes.ReadNumber.{ReadNumber}
+use Rattle.exp_golomb.proofs.CodesLaws.{result-read, result-fault}
 use Rattle.exp_golomb.proofs.Extent.{CodeEnd, unsigned-end}
-use Rattle.unpack.proofs.HeaderLaws.{number-open, no_length, no-data, no_index, header_read}
+use Rattle.unpack.proofs.HeaderLaws.{number-open, fault-refused, no_length, no-data, no_index, header_read}
 use Rattle.unpack.proofs.header.read_header.Goals as goal
-use Rattle.unpack.proofs.header.read_header.Goals.{In-Read, In-Read-index_code}
 
--- the number at a bit, as the definition has it
+-- the number at a bit, with an end out of its reach; and as the definition has it
+abbrev open_at : List ℕ → ℕ → Number
+open_at bytes = unsigned bytes 18446744073709551615 false
+
 abbrev number_at : List ℕ → ℕ → Number
 number_at bytes = unsigned bytes (8 * length bytes) false
 
--- a number that is read with an end out of its reach
-open-number : (bytes : List ℕ) (at : ℕ) (r : Number) → r ≡ unsigned bytes 18446744073709551615 false at → at < 2 ^ 63 → r ≡ number_at bytes at
-open-number bytes at r read small = read ∙ number-open bytes 18446744073709551615 at (omega arith)
+same : (bytes : List ℕ) (at : ℕ) → at < 2 ^ 63 → open_at bytes at ≡ number_at bytes at
+same bytes at small = number-open bytes 18446744073709551615 at (omega arith)
 
-pub returns-in_default : goal.returns-in_default
-returns-in_default c =
-    c.refused_at.ensures
-    ∙ sym (no_length _ _ c.read_unsigned-length.result (open-number c.args.bytes.now c.args.at _ c.read_unsigned-length.ensures (omega arith))
-    c.in_default.not-Read)
+-- a number that was read
+known : (bytes : List ℕ) (at : ℕ) (n : ReadNumber) → at < 2 ^ 63 → Ok n ≡ result_of (open_at bytes at) → number_at bytes at ≡ Read n.size n.minus n.next
+known bytes at n small e = sym (same bytes at small) ∙ result-read _ _ e
 
--- the length that was read, and how far it reaches
-size-read : (c : In-Read) → number_at c.args.bytes.now c.args.at ≡ Read c.in-Read.size c.in-Read.minus c.in-Read.next
-size-read c = sym (open-number c.args.bytes.now c.args.at _ c.read_unsigned-length.ensures (omega arith)) ∙ c.in-Read.is
+-- and how far it reaches
+reach : (bytes : List ℕ) (at : ℕ) (n : ReadNumber) → at < 2 ^ 63 → Ok n ≡ result_of (open_at bytes at) →
+    CodeEnd at 31 (min (8 * length bytes) (8 * length bytes)) n.next
+reach bytes at n small e = unsigned-end _ _ _ _ _ _ _ (known bytes at n small e)
 
-size-reach : (c : In-Read) →
-    CodeEnd c.args.at 31 (min (8 * length c.args.bytes.now) (8 * length c.args.bytes.now)) c.in-Read.next
-size-reach c = unsigned-end _ _ _ _ _ _ _ (size-read c)
+pub returns-in_err-length : goal.returns-in_err-length
+returns-in_err-length c =
+    let p = err_from_is_err_and c.from_residual.result c.from_residual.ensures.1 in
+    let e = c.in_err-length.ensures in
+    rw (p.1, p.2)
+    (fault-refused _ _ e
+    ∙ sym (no_length _ _ _ (same c.args.bytes.now c.args.at (omega arith)) (result-fault _ _ e).2))
 
 pub boundary-requires : goal.boundary-requires
-boundary-requires c = omega (arith, (size-reach (goal.at.boundary-requires c).In-Read).bits_most)
+boundary-requires c = omega (arith, (reach c.args.bytes.now c.args.at _ (omega arith) c.in_ok-length.ensures).bits_most)
 
-pub returns-then-size-eq0 : goal.returns-then-size-eq0
-returns-then-size-eq0 c = rw c.boundary.ensures (sym (no-data _ _ _ _ _ (size-read (goal.at.returns-then-size-eq0 c).In-Read) c.if-size-eq0.true))
+pub returns-then-length-eq0 : goal.returns-then-length-eq0
+returns-then-length-eq0 c =
+    rw c.boundary.ensures (sym (no-data _ _ _ _ _ (known c.args.bytes.now c.args.at _ (omega arith) c.in_ok-length.ensures) c.if-length-eq0.true))
 
-small : (c : In-Read) → c.in-Read.next < 2 ^ 63
-small c = omega (arith, (size-reach c).bits_most)
-
-pub returns-in_default-index_code : goal.returns-in_default-index_code
-returns-in_default-index_code c =
-    c.refused_at-in_default-index_code.ensures
-    ∙ sym (no_index _ _ _ _ _ (size-read (goal.at.returns-in_default-index_code c).In-Read) c.if-size-eq0.false c.read_unsigned-index_code.result (open-number c.args.bytes.now _ _ c.read_unsigned-index_code.ensures (small (goal.at.returns-in_default-index_code c).In-Read))
-    c.in_default-index_code.not-Read)
-
--- the quantiser index that was read
-index_read : (c : In-Read-index_code) → c.in-Read.next < 2 ^ 63 → number_at c.args.bytes.now c.in-Read.next ≡ Read c.in-Read-index_code.index c.in-Read-index_code.minus c.in-Read-index_code.end
-index_read c below = sym (open-number c.args.bytes.now _ _ c.read_unsigned-index_code.ensures below) ∙ c.in-Read-index_code.is
+pub returns-in_err-index : goal.returns-in_err-index
+returns-in_err-index c =
+    let p = err_from_is_err_and c.from_residual-in_err-index.result c.from_residual-in_err-index.ensures.1 in
+    let e = c.in_err-index.ensures in
+    let r = reach c.args.bytes.now c.args.at _ (omega arith) c.in_ok-length.ensures in
+    rw (p.1, p.2)
+    (fault-refused _ _ e
+    ∙ sym (no_index _ _ _ _ _ (known c.args.bytes.now c.args.at _ (omega arith) c.in_ok-length.ensures) c.if-length-eq0.false _
+    (same c.args.bytes.now _ (omega (arith, r.bits_most))) (result-fault _ _ e).2))
 
 pub boundary-requires-2 : goal.boundary-requires-2
-boundary-requires-2 c = omega (arith, (unsigned-end _ _ _ _ _ _ _ (index_read (goal.at.boundary-requires-2 c).In-Read-index_code (small (goal.at.boundary-requires-2 c).In-Read))).bits_most, (size-reach (goal.at.boundary-requires-2 c).In-Read).bits_most)
+boundary-requires-2 c =
+    let r = reach c.args.bytes.now c.args.at _ (omega arith) c.in_ok-length.ensures in
+    omega (arith, r.bits_most, (reach c.args.bytes.now _ _ (omega (arith, r.bits_most)) c.in_ok-index.ensures).bits_most)
 
 pub returns : goal.returns
 returns c =
+    let r = reach c.args.bytes.now c.args.at _ (omega arith) c.in_ok-length.ensures in
     rw c.boundary-2.ensures
-    (sym (header_read _ _ _ _ _ (size-read (goal.at.returns c).In-Read) c.if-size-eq0.false _ _ _ (index_read (goal.at.returns c).In-Read-index_code (small (goal.at.returns c).In-Read))))
+    (sym (header_read _ _ _ _ _ (known c.args.bytes.now c.args.at _ (omega arith) c.in_ok-length.ensures) c.if-length-eq0.false _ _ _
+    (known c.args.bytes.now _ _ (omega (arith, r.bits_most)) c.in_ok-index.ensures)))

@@ -1,5 +1,0 @@
--- `unpack_vectors::main` ends, since each turn counts down.
-use Rattle.unpack_vectors.proofs.main.Given as goal
-
-abbrev pub decreases-loop-turns : goal.decreases-loop-turns
-decreases-loop-turns l = l.turns
