@@ -80,7 +80,9 @@ pub struct CodeTable {
 
 impl CodeTable {
     // The table of all codes that end in eight bits.
-    pub fn new() -> CodeTable {
+    pub fn new() -> CodeTable
+        ensures { KnowsCodes result.entries }
+    {
         CodeTable { entries: ENTRIES }
     }
 
