@@ -1,13 +1,14 @@
 -- Laws of ranges: a signed number read back from its bits, and the test of a range.
 -- Assumes nothing.
-use mathlib.Core.Path.{◌≡◌}
+use mathlib.Core.Path.{◌≡◌, sym, ◌∙◌}
 use mathlib.Core.Bool.{true, false}
 use Prim.Native.Nat.{◌^◌, ◌<◌}
 use native.Mathlib.Decide.{dec_lt}
 use native.Mathlib.Omega.{arith}
-use lib.IntN.{ℤ}
-use lib.Signed.{mag}
-use mir.Syntax.{Width, w32}
+use lib.Dec.{leb-suc-suc}
+use lib.IntN.{ℤ, pos, negsuc}
+use lib.Signed.{mag, le_z}
+use mir.Syntax.{Width, w32, w64}
 use Rattle.std.proofs.Common.{FitsSigned}
 use mir.Val.{to_z, of_z, hbits}
 use mir.ValLaws.{to_z-of_z}
@@ -34,3 +35,21 @@ fits32-outside z wide =
       | yes below ↦ absurd (wide (record { sfits = below }))
       | no not_below ↦ le-ltb (mag z) (2 ^ 31) (omega arith)
     ]
+
+-- the range tested from below, then from above
+pub fits32-upper : (z : ℤ) → le_z (negsuc 2147483647) z ≡ true → le_z z (pos 2147483647) ≡ fits32 z
+unfolding fits32
+fits32-upper (pos n) e = sym (leb-suc-suc n 2147483647)
+fits32-upper (negsuc n) e = sym (leb-suc-suc n 2147483647 ∙ e)
+
+pub fits32-lower : (z : ℤ) → le_z (negsuc 2147483647) z ≡ false → false ≡ fits32 z
+unfolding fits32
+fits32-lower (pos n) e = cc
+fits32-lower (negsuc n) e = sym (leb-suc-suc n 2147483647 ∙ e)
+
+-- the same tests of a number read back from its bits
+pub fits32_above : (z : ℤ) → FitsSigned w64 z → le_z (negsuc 2147483647) (to_z w64 (of_z w64 z)) ≡ true → le_z (to_z w64 (of_z w64 z)) (pos 2147483647) ≡ fits32 z
+fits32_above z h e = let b = back w64 z h.sfits in rw b (fits32-upper z (rw b at e))
+
+pub fits32_under : (z : ℤ) → FitsSigned w64 z → le_z (negsuc 2147483647) (to_z w64 (of_z w64 z)) ≡ false → le_z (negsuc 2147483647) (to_z w64 (of_z w64 z)) ≡ fits32 z
+fits32_under z h e = let b = back w64 z h.sfits in let low = rw b at e in rw b (low ∙ fits32-lower z low)

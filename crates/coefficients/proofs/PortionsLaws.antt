@@ -16,6 +16,7 @@ use Rattle.base.specs.declared.status.Fault.{Fault}
 use Rattle.base.specs.declared.status.Refusal.TheVariants.{BytesEndEarly, CodeTooLong}
 use Rattle.exp_golomb.specs.Begins.{Begins}
 use Rattle.exp_golomb.specs.Codes.{Number, Read, Missing, TooLong, result_of, next_of, signed}
+use Rattle.exp_golomb.specs.declared.codes.ReadNumber.{ReadNumber}
 use Rattle.exp_golomb.proofs.Extent.{signed-before, signed-short}
 use Rattle.exp_golomb.proofs.Moved.{signed-whole}
 use Rattle.exp_golomb.proofs.BeginsLaws.{signed-begins, begins-itself}
@@ -78,6 +79,14 @@ not-read-long (Missing next) fault c is long =
 not-read-long (TooLong next) fault c is long =
     let same : fault ≡ record { refusal = CodeTooLong; bit = next } = cc in
     rw same refl
+
+-- and where one was
+pub not-read-read : (number : Number) (read : ReadNumber) (c : Cursor) → Ok read ≡ result_of number →
+    record { count = 0; progress = Ok c.bit; short = true } ≡ not_read number c
+unfolding not_read
+not-read-read (Read size minus next) read c is = refl
+not-read-read (Missing next) read c is = cc
+not-read-read (TooLong next) read c is = cc
 
 pub not-read-some : (number : Number) (c : Cursor) → ((not_read number c).count ≤ 1) × ((not_read number c).short ≡ false → 1 ≤ (not_read number c).count)
 unfolding not_read

@@ -5,7 +5,7 @@ ghost use Rattle.coefficients.specs.Factors.{KnowsFactors};
 ghost use Rattle.coefficients.specs.Scaling.{scale_of, small_fit, Small};
 
 use crate::factors::FACTORS;
-use crate::reading::Quantiser;
+pub use crate::reading::Quantiser;
 use base::signed;
 
 // The quantiser of an index, in a picture that is intra or not. Its numbers are free: whatever they are, sizes become what the index makes of

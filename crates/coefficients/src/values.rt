@@ -1,6 +1,7 @@
 // Document 01, "One subband": values, each a signed number, that go one after the other to entries of a plane. Small values are looked up,
 // many at once; the entries hold zeros, so a 0 needs no store.
-ghost use Rattle.std.specs.Prelude.{◌≡◌, true, false, Err, ◌+◌, ◌-◌, ◌≤◌, ◌<◌, ◌^◌, length, set};
+ghost use Rattle.std.specs.Prelude.{◌≡◌, true, false, ◌+◌, ◌-◌, ◌≤◌, ◌<◌, ◌^◌, length, set};
+ghost use Rattle.std.specs.Result.{IfErr};
 ghost use Rattle.base.specs.Sign.{with_sign};
 ghost use Rattle.exp_golomb.specs.Codes.{Number, result_of};
 ghost use Rattle.lookups.specs.Windows.{is_window};
@@ -329,29 +330,31 @@ pub fn read_value<P: Placing>(
                 short: false,
             }
         }
-        Err(fault) => not_read(fault, cursor),
+        Err(fault) => not_read(Err(fault), cursor),
     }
 }
 
 // What follows where no number was read: its refusal, or, where a bit is missing, that it is not all there.
-pub fn not_read(fault: Fault, cursor: Cursor) -> Portion
-    requires { cursor.origin + fault.bit < 2 ^ 63 }
-    ensures { (number : Number) → Err fault ≡ result_of number → result ≡ not_read number cursor }
+pub fn not_read(number: Result<ReadNumber, Fault>, cursor: Cursor) -> Portion
+    requires { IfErr number (λ fault. cursor.origin + fault.bit < 2 ^ 63) }
+    ensures { (n : Number) → number ≡ result_of n → result ≡ not_read n cursor }
 {
-    match fault.refusal {
-        Refusal::CodeTooLong => Portion {
-            count: 1,
-            progress: Err(Fault {
-                bit: cursor.origin + fault.bit,
-                ..fault
-            }),
-            short: false,
-        },
-        _ => Portion {
-            count: 0,
-            progress: Ok(cursor.bit),
-            short: true,
-        },
+    if let Err(fault) = number {
+        if let Refusal::CodeTooLong = fault.refusal {
+            return Portion {
+                count: 1,
+                progress: Err(Fault {
+                    bit: cursor.origin + fault.bit,
+                    ..fault
+                }),
+                short: false,
+            };
+        }
+    }
+    Portion {
+        count: 0,
+        progress: Ok(cursor.bit),
+        short: true,
     }
 }
 

@@ -129,6 +129,23 @@ chain-passed true true false false true e =
     record { sizes-pass = refl; depth-passes = refl; wavelet-passes = refl; codeblocks-pass = refl; planes-pass = refl }
 
 module _ (job : Job) (p : Parameters) (l : Lengths) where
+  -- each refusal, from the checks before it and its own
+  pub refused-1 : sizes_in_range p ≡ false → 1 ≡ refusal_of job p l
+  unfolding refusal_of
+  refused-1 s = rw s
+
+  pub refused-2 : sizes_in_range p ≡ true → depth_in_range p ≡ false → 2 ≡ refusal_of job p l
+  unfolding refusal_of
+  refused-2 s d = rw (s, d)
+
+  pub refused-3 : sizes_in_range p ≡ true → depth_in_range p ≡ true → transforms job && not (wavelet_in_range p) ≡ true → 3 ≡ refusal_of job p l
+  unfolding refusal_of
+  refused-3 s d w = rw (s, d, w)
+
+  pub refused-4 : sizes_in_range p ≡ true → depth_in_range p ≡ true → transforms job && not (wavelet_in_range p) ≡ false → unpacks job && not (codeblocks_in_range p) ≡ true → 4 ≡ refusal_of job p l
+  unfolding refusal_of
+  refused-4 s d w b = rw (s, d, w, b)
+
   -- no refusal where every check passes, and the other way round
   pub refused_none : sizes_in_range p ≡ true → depth_in_range p ≡ true → transforms job && not (wavelet_in_range p) ≡ false → unpacks job && not (codeblocks_in_range p) ≡ false → planes_fit job p l ≡ true → 0 ≡ refusal_of job p l
   unfolding refusal_of

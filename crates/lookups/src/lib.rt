@@ -72,10 +72,10 @@ pub fn starts_with_ones(w: u64, n: usize) -> bool
 }
 
 // A table that is right of any eight bits.
-#[derive(Drop)]
+#[derive(Clone, Copy)]
 pub struct CodeTable {
     pub entries: [u16; 256],
-    ghost knows: { KnowsCodes entries },
+    pub ghost knows: { KnowsCodes entries },
 }
 
 impl CodeTable {

@@ -99,6 +99,11 @@ pub record ChecksPassed (p : LowDelay) (planes : Planes) : Type 0 where
   pub lengths : Lengths p.picture planes.luma planes.first planes.second
 
 module _ (p : LowDelay) (planes : Planes) where
+  -- 13, from the checks before it and its own
+  pub refused-13 : sizes_in_range p.picture ≡ true → in_range 0 4 p.picture.depth ≡ true → slices_in_range p ≡ false → 13 ≡ refusal_of p planes
+  unfolding refusal_of
+  refused-13 sizes depth slices = rw (sizes, depth, slices)
+
   -- no refusal: every check passed
   pub passed : refusal_of p planes ≡ 0 → ChecksPassed p planes
   unfolding refusal_of

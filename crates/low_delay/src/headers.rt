@@ -1,12 +1,13 @@
 // Document 02, request Four: the header of a low delay slice, which is its quantiser index and luma's bit length.
 ghost use Rattle.std.specs.Prelude.{◌≡◌, ◌+◌, ◌*◌, ◌^◌, ◌≤◌, ◌<◌, IfOk, length};
 ghost use Rattle.exp_golomb.specs.Bits.{bits_from};
+ghost use Rattle.slices.specs.Bounds.{Checked};
 ghost use Rattle.low_delay.specs.Slices.{length_bits, low_delay_parts};
 ghost use Rattle.low_delay.specs.Bounds.{parts_of, SoundParts};
 
-use crate::reader::SliceReader;
 use base::status::{Fault, Refusal};
 use slices::areas::indices_fit;
+use slices::parameters::Picture;
 
 // How many bits the quantiser index of a slice has.
 const INDEX_BITS: usize = 7;
@@ -19,35 +20,33 @@ pub struct Header {
     pub middle: usize,
 }
 
-impl SliceReader<'_, '_> {
-    // Reads the header of a slice, whose own bytes start at a bit of all bytes.
-    pub(crate) fn read_header(self, own: &[u8], start: usize) -> Result<Header, Fault>
-        requires { (1 ≤ length own.now) × (length own.now ≤ 65535) × (start < 2 ^ 62) }
-        ensures result_value { parts_of own.now start result ≡ low_delay_parts self.entry.p.picture (length own.now) own.now start }
-        ensures sound_header { IfOk result (SoundParts self.entry.p.picture (length own.now)) }
-    {
-        let index = read_bits(own, 0, INDEX_BITS) as u32;
-        let n = length_bits(own.len());
-        let from = INDEX_BITS + n;
-        let middle = from + read_bits(own, INDEX_BITS, n);
-        if 8 * own.len() < middle {
-            return Err(Fault {
-                refusal: Refusal::LumaLength,
-                bit: start + from,
-            });
-        }
-        if !indices_fit(self.p.picture, index) {
-            return Err(Fault {
-                refusal: Refusal::Quantiser,
-                bit: start + from,
-            });
-        }
-        Ok(Header {
-            index,
-            from,
-            middle,
-        })
+// Reads the header of a slice, whose own bytes start at a bit of all bytes.
+pub fn read_header(p: Picture, own: &[u8], start: usize) -> Result<Header, Fault>
+    requires { Checked p × (1 ≤ length own.now) × (length own.now ≤ 65535) × (start < 2 ^ 62) }
+    ensures result_value { parts_of own.now start result ≡ low_delay_parts p (length own.now) own.now start }
+    ensures sound_header { IfOk result (SoundParts p (length own.now)) }
+{
+    let index = read_bits(own, 0, INDEX_BITS) as u32;
+    let n = length_bits(own.len());
+    let from = INDEX_BITS + n;
+    let middle = from + read_bits(own, INDEX_BITS, n);
+    if 8 * own.len() < middle {
+        return Err(Fault {
+            refusal: Refusal::LumaLength,
+            bit: start + from,
+        });
     }
+    if !indices_fit(p, index) {
+        return Err(Fault {
+            refusal: Refusal::Quantiser,
+            bit: start + from,
+        });
+    }
+    Ok(Header {
+        index,
+        from,
+        middle,
+    })
 }
 
 // The n bits from a bit on, as a number.

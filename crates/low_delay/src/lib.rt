@@ -8,19 +8,23 @@ pub mod parameters;
 pub mod planes;
 pub mod reader;
 pub mod slice;
+pub mod starts;
 
 ghost use Rattle.std.specs.Prelude.{◌≡◌};
 ghost use Rattle.component.specs.Answers.{answer_of};
 ghost use Rattle.slices.specs.Planes.{planes_of};
 ghost use Rattle.slices.specs.Areas.{slice_count};
-ghost use Rattle.slices.specs.Bounds.{Lengths};
+ghost use Rattle.slices.specs.Bounds.{Checked, Lengths};
 ghost use Rattle.slices.specs.Stores.{planes_behind, SamePlanes};
 ghost use Rattle.low_delay.specs.Job.{outcome, slices_from, unpacked};
+ghost use Rattle.low_delay.specs.Bounds.{SoundFraction};
 
 use crate::checks::check;
+use crate::finish::finish;
 use crate::parameters::LowDelay;
 use crate::planes::zero_planes;
 use crate::reader::SliceReader;
+use crate::starts::slice_count;
 use coefficients::quantiser::factor_table;
 use component::parameters::Refused;
 use lookups::CodeTable;
@@ -47,6 +51,19 @@ pub fn unpack_low_delay(
         second,
     };
     zero_planes(&mut planes);
+    read_slices(p, bytes, &mut planes)
+}
+
+// Reads the slices in raster order, and then predicts where the rules say so. The tables stand here, and not beside the checks: a function pays for
+// its arrays where it begins, and a call that a check refuses needs none.
+fn read_slices(p: LowDelay, bytes: &[u8], planes: &mut ThreePlanes<'_>) -> Result<usize, Refused>
+    requires { Checked p.picture × SoundFraction p
+        × Lengths p.picture planes.old.luma.now planes.old.first.now planes.old.second.now }
+    ensures same { SamePlanes planes.old planes.new }
+    ensures ended { outcome (answer_of result) planes.new.luma.now planes.new.first.now planes.new.second.now
+        ≡ slices_from p bytes.now (slice_count p.picture) 0 (planes_behind planes.old) }
+{
+    let mut run = [0; 8192];
     let intra = p.picture.intra;
     let codes = CodeTable::new();
     let mut small = [[0; 32]; 116];
@@ -54,28 +71,15 @@ pub fn unpack_low_delay(
     let factors = factor_table();
     let tables = Tables::new(intra, &codes, &small, &factors);
     let reader = SliceReader { p, bytes, tables };
-    reader.read_slices(&mut planes)
-}
-
-impl SliceReader<'_, '_> {
-    // Reads the slices in raster order, and then predicts where the rules say so.
-    fn read_slices(self, planes: &mut ThreePlanes<'_>) -> Result<usize, Refused>
-        requires { Lengths self.p.picture planes.old.luma.now planes.old.first.now planes.old.second.now }
-        ensures same { SamePlanes planes.old planes.new }
-        ensures ended { outcome (answer_of result) planes.new.luma.now planes.new.first.now planes.new.second.now
-            ≡ slices_from self.entry.p self.entry.bytes.now (slice_count self.entry.p.picture) 0 (planes_behind planes.old) }
-    {
-        let mut run = [0; 8192];
-        let count = self.slice_count();
-        for k in 0..count {
-            if let Err(fault) = self.read_slice(planes, k, &mut run) {
-                zero_planes(planes);
-                return Err(Refused {
-                    refusal: fault.refusal,
-                    place: k,
-                });
-            }
+    let count = slice_count(p.picture);
+    for k in 0..count {
+        if let Err(fault) = reader.read_slice(planes, k, &mut run) {
+            zero_planes(planes);
+            return Err(Refused {
+                refusal: fault.refusal,
+                place: k,
+            });
         }
-        self.finish(planes)
     }
+    finish(p, planes)
 }

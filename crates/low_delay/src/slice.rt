@@ -9,8 +9,9 @@ ghost use Rattle.slices.specs.Reads.{Blank, Left};
 ghost use Rattle.low_delay.specs.Slices.{slice_start, slice};
 ghost use Rattle.low_delay.specs.Bounds.{SoundParts, announced};
 
-use crate::headers::Header;
+use crate::headers::{Header, read_header};
 use crate::reader::SliceReader;
+use crate::starts::slice_start;
 use base::status::{Fault, Refusal};
 use runs::Span;
 use slices::parameters::Holder;
@@ -27,7 +28,7 @@ pub struct TwoParts {
 
 impl SliceReader<'_, '_> {
     // Reads a slice, if its bytes are there. Goes on at the bit after it. After a refusal the planes and the run are free.
-    pub(crate) fn read_slice(
+    pub fn read_slice(
         self,
         planes: &mut ThreePlanes<'_>,
         number: usize,
@@ -39,8 +40,8 @@ impl SliceReader<'_, '_> {
         ensures read { Left (8 * slice_start self.entry.p (suc number)) result (planes_behind planes.new) run.new
             (slice self.entry.p self.entry.bytes.now number (planes_behind planes.old)) }
     {
-        let start = self.slice_start(number);
-        let next = self.slice_start(number + 1);
+        let start = slice_start(self.p, number);
+        let next = slice_start(self.p, number + 1);
         if self.bytes.len() < next {
             return Err(Fault {
                 refusal: Refusal::BytesEndEarly,
@@ -48,7 +49,7 @@ impl SliceReader<'_, '_> {
             });
         }
         let own = &self.bytes[start..next];
-        let header = self.read_header(own, 8 * start)?;
+        let header = read_header(self.p.picture, own, 8 * start)?;
         let parts = TwoParts {
             number,
             start: 8 * start,

@@ -15,7 +15,7 @@ use low_delay::unpack_low_delay;
 use std::io;
 use std::io::Read;
 use text::read_full;
-use vector_io::{bad_input, print_row};
+use vector_io::{bad_input, fill_plane, print_row};
 
 // Room for the longest data of a job.
 const BYTES_MOST: usize = 16384;
@@ -112,9 +112,9 @@ fn unpack_and_print(
 ) -> io::Result<()>
     requires { (length luma.old ≤ 4096) × (length first.old ≤ 4096) × (length second.old ≤ 4096) }
 {
-    luma.fill(7);
-    first.fill(7);
-    second.fill(7);
+    fill_plane(luma, 7);
+    fill_plane(first, 7);
+    fill_plane(second, 7);
     let outcome = unpack_low_delay(p, bytes, luma, first, second);
     print_answer(rt, p, bytes.len(), Answer::from(outcome))?;
     print_row(&mut io::writer(rt), luma)?;

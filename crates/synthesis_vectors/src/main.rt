@@ -15,7 +15,7 @@ use component::parameters::{Answer, Parameters};
 use std::io;
 use std::io::Read;
 use text::read_full;
-use vector_io::bad_input;
+use vector_io::{bad_input, fill_plane};
 
 // The most coefficients of a job, and so the most samples.
 const AREA_MOST: usize = 65536;
@@ -109,8 +109,8 @@ fn synthesise_and_print(
 ) -> io::Result<()>
     requires { (1 ≤ p.width) × (p.width ≤ 4096) }
 {
-    work.fill(7);
-    samples.fill(7);
+    fill_plane(work, 7);
+    fill_plane(samples, 7);
     let synthesised = transform::synthesise(p, coefficients, work, samples);
     print_answer(rt, p, Answer::from(synthesised))?;
     if synthesised.is_ok() {

@@ -107,6 +107,17 @@ spaced-more l x z h e =
     rw (next, take-suc l x (pos 0) h, spaced-both (take x l) (get_or l x (pos 0) ∷ []), e)
     (ap (λ (s : List ℕ). spaced (take x l) ++ s) (sym (append-nil (ascii " " ++ signed_text (get_or l x (pos 0))))))
 
+-- a row of some numbers
+pub row-some :
+    (l : List ℤ) (z : ℤ) (rest : List ℤ)
+    → 0 < length l
+    → z ≡ get_or l 0 (pos 0)
+    → rest ≡ drop 1 l
+    → signed_text z ++ spaced rest ++ ascii "\n" ≡ row_text l
+unfolding row_text
+row-some [] z rest h e f = absurd (omega arith)
+row-some (y ∷ l) z rest h e f = rw (e, f) refl
+
 -- the rows but the last, and the last, which starts at entry `from`
 rows_last :
     (width y : ℕ) (l : List ℤ) (from : ℕ) → from ≡ width * y → rows_text width (suc y) l ≡ rows_text width y l ++ row_text (take width (drop from l))

@@ -12,7 +12,7 @@ ghost use Rattle.coefficients.specs.Reading.{goes_on};
 ghost use Rattle.coefficients.specs.Values.{after};
 ghost use Rattle.unpack.specs.Subband.{codeblocks_of, subband};
 ghost use Rattle.unpack.specs.Job.{outcome, subbands_from, unpacked};
-ghost use Rattle.unpack.specs.Bounds.{ClearBand, ClearBandsFrom};
+ghost use Rattle.unpack.specs.Bounds.{Checked, ClearBand, ClearBandsFrom};
 
 use crate::data::{Reader, predict_band};
 use crate::header::read_header;
@@ -35,39 +35,39 @@ pub fn unpack(p: Parameters, bytes: &[u8], coefficients: &mut [i32]) -> Result<u
     };
     check(Job::Unpack, p, lengths)?;
     zero(coefficients);
+    read_subbands(p, bytes, coefficients)
+}
+
+// Reads the subbands in stream order into a plane of zeros. Where one is refused, all are zeros again. The table stands here, and not beside the
+// checks: a function pays for its arrays where it begins, and a call that a check refuses needs none.
+fn read_subbands(p: Parameters, bytes: &[u8], plane: &mut [i32]) -> Result<usize, Refused>
+    requires { Checked p × (length plane.old ≡ area_of p) × ClearBandsFrom p 0 plane.old }
+    ensures { outcome (answer_of result) plane.new ≡ subbands_from p bytes.now (subband_count p.depth) 0 0 plane.old }
+{
     let table = CodeTable::new();
     let reader = Reader {
         p,
         bytes,
         table: &table,
     };
-    reader.read_subbands(coefficients)
+    let count = subband_count(p.depth as usize);
+    let mut at = 0;
+    for k in 0..count {
+        match reader.read_subband(plane, k, at) {
+            Ok(bit) => at = bit,
+            Err(fault) => {
+                zero(plane);
+                return Err(Refused {
+                    refusal: fault.refusal,
+                    place: k,
+                });
+            }
+        }
+    }
+    Ok(at / 8)
 }
 
 impl Reader<'_> {
-    // Reads the subbands in stream order into a plane of zeros. Where one is refused, all are zeros again.
-    fn read_subbands(self, plane: &mut [i32]) -> Result<usize, Refused>
-        requires { (length plane.old ≡ area_of self.p) × ClearBandsFrom self.p 0 plane.old }
-        ensures { outcome (answer_of result) plane.new
-            ≡ subbands_from self.entry.p self.entry.bytes.now (subband_count self.entry.p.depth) 0 0 plane.old }
-    {
-        let count = subband_count(self.p.depth as usize);
-        let mut at = 0;
-        for k in 0..count {
-            match self.read_subband(plane, k, at) {
-                Ok(bit) => at = bit,
-                Err(fault) => {
-                    zero(plane);
-                    return Err(Refused {
-                        refusal: fault.refusal,
-                        place: k,
-                    });
-                }
-            }
-        }
-        Ok(at / 8)
-    }
-
     // Reads subband k from a bit on, into zeros: its header, its data, and its prediction where the rules say so. Goes on at the bit after it.
     // It is not inlined, which leaves its loops more registers.
     #[inline(never)]

@@ -13,7 +13,7 @@ use component::parameters::{Answer, Parameters};
 use std::io;
 use std::io::Read;
 use text::read_full;
-use vector_io::{bad_input, print_row};
+use vector_io::{bad_input, fill_plane, print_row};
 
 // Room for the longest data of a job.
 const BYTES_MOST: usize = 16384;
@@ -93,7 +93,7 @@ fn unpack_and_print(
 ) -> io::Result<()>
     requires { length plane.old ≤ 4096 }
 {
-    plane.fill(7);
+    fill_plane(plane, 7);
     let unpacked = unpack::unpack(p, bytes, plane);
     print_answer(rt, p, bytes.len(), Answer::from(unpacked))?;
     print_row(&mut io::writer(rt), plane)

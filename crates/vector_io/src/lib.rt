@@ -1,8 +1,10 @@
-// What the programs that run stored vectors share: numbers of the input, and pieces of the lines of the output.
+// What the programs that run stored vectors share: numbers of the input, pieces of the lines of the output, and planes that hold something before a
+// call.
 #![tactic(auto)]
 
 ghost use Rattle.std.specs.Prelude.{◌≡◌, false, ◌+◌, ◌*◌, ◌++◌, ◌≤◌, ◌<◌, length, IfOk, OnOk};
 ghost use Rattle.std.specs.Io.KnownBytes.{Appends};
+ghost use Rattle.base.specs.Fill.{fill};
 ghost use Rattle.text.specs.Text.{row_text};
 ghost use Rattle.vector_io.specs.Lines.{named, job_text, answer_text};
 
@@ -22,6 +24,13 @@ pub fn two_bytes(high: u8, low: u8) -> u32
     ensures { (result ≡ high * 256 + low) × (result < 65536) }
 {
     u32::from(u16::from_be_bytes([high, low]))
+}
+
+// Puts one number into the whole plane.
+pub fn fill_plane(plane: &mut [i32], number: i32)
+    ensures { plane.new ≡ fill plane.old 0 (length plane.old) (λ _. number) }
+{
+    plane.fill(number);
 }
 
 // Says that the input is bad, and answers that there is no other job.

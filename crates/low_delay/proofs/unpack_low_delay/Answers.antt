@@ -22,15 +22,10 @@ returns-in_err-check c =
 none : (c : In_ok-check) → refusal_of c.args.p (planes_of c.args.luma.now c.args.first.now c.args.second.now) ≡ 0
 none c = sym (c.in_ok-check.ensures _ (record { luma_long = refl; first_long = refl; second_long = refl }))
 
-pub invariant_of-reader : goal.invariant_of-reader
-invariant_of-reader c =
-    let checks = passed _ _ (none (goal.at.invariant_of-reader c).In_ok-check) in
-    record { checked = checks.picture; fraction = checks.fraction; same_intra = c.new-tables.ensures }
-
 pub read_slices-requires : goal.read_slices-requires
 read_slices-requires c =
     let checks = passed _ _ (none (goal.at.read_slices-requires c).In_ok-check) in
-    lengths-same _ _ _ c.zero_planes.ensures.same.1 checks.lengths
+    (checks.picture, checks.fraction, lengths-same _ _ _ c.zero_planes.ensures.same.1 checks.lengths)
 
 pub returns : goal.returns
 returns c =

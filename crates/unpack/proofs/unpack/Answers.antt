@@ -21,13 +21,10 @@ returns-in_err-check c =
 none : (c : In_ok-check) → refusal_of Unpack c.args.p (record { coefficients = length c.args.coefficients.now; work = 0; samples = 0 }) ≡ 0
 none c = sym c.in_ok-check.ensures
 
-pub invariant_of-reader : goal.invariant_of-reader
-invariant_of-reader c = record { checked = job-checked c.args.p c.args.coefficients.now (none (goal.at.invariant_of-reader c).In_ok-check) }
-
 pub read_subbands-requires : goal.read_subbands-requires
 read_subbands-requires c =
     let plane = c.args.coefficients.now in
-    (c.zero.auto.plane ∙ job-fits c.args.p plane (none (goal.at.read_subbands-requires c).In_ok-check), rw c.zero.ensures (zeros-clear c.args.p plane))
+    (job-checked c.args.p plane (none (goal.at.read_subbands-requires c).In_ok-check), c.zero.auto.plane ∙ job-fits c.args.p plane (none (goal.at.read_subbands-requires c).In_ok-check), rw c.zero.ensures (zeros-clear c.args.p plane))
 
 pub returns : goal.returns
 returns c =

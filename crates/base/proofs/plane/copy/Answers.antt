@@ -1,15 +1,22 @@
--- `base::plane::copy` meets its contract: the part is overwritten whole, with the source's part.
-use mathlib.Core.Path.{◌∙◌}
+use mathlib.Core.Path.{refl, sym}
 use Prim.Native.Nat.{◌+◌}
 use native.Mathlib.Omega.{arith}
 use lib.IntN.{pos}
-use Rattle.std.proofs.lemmas.List.Edits.{length-between, get_or-between}
-use Rattle.base.proofs.FillLaws.{fill-part}
+use lib.ListN.{get_or, length-set}
+use mir.Syntax.{w32}
+use borrow.Author.Rules.{rules}
+use Rattle.base.proofs.FillLaws.{fill_none, fill_more}
+use Rattle.base.proofs.RangeLaws.{back}
 use Rattle.base.proofs.plane.copy.Goals as goal
 
-pub returns : goal.returns
-returns c =
-    let n = c.args.n in
-    let whole = length-between c.args.plane.now c.args.index (c.args.index + n) c.requires.0 in
-    fill-part _ _ _ (pos 0) n _ (c.copy_from_slice.ensures.len ∙ whole) c.requires.0
-    (λ k h. rw c.copy_from_slice.ensures.after (get_or-between c.args.source.now c.args.from (c.args.from + n) k (pos 0) (omega arith)))
+pub loop-x-init : goal.loop-x-init
+loop-x-init c = (omega arith, refl, sym (fill_none _ _ _))
+
+pub loop-x-preserved : goal.loop-x-preserved
+loop-x-preserved c =
+    let args = c.args in
+    let inv = c.loop-x.invariant in (
+      omega arith,
+      simp length-set inv.1,
+      rw (back w32 (get_or args.source.now (args.from + c.loop-x.x) (pos 0)) (search rules), inv.2) (fill_more _ _ _ _ _ refl),
+    )

@@ -40,13 +40,13 @@ own_is c =
     ∙ size_is _ _ _ _ starts ends
 
 pub slice_start-start-requires : goal.slice_start-start-requires
-slice_start-start-requires c = omega (arith, slices-few (goal.at.slice_start-start-requires c).Start)
+slice_start-start-requires c = (c.args.self.fraction, omega (arith, slices-few (goal.at.slice_start-start-requires c).Start))
 
 pub overflow_add-number : goal.overflow_add-number
 overflow_add-number c = omega (arith, slices-few (goal.at.overflow_add-number c).Start)
 
 pub slice_start-next-requires : goal.slice_start-next-requires
-slice_start-next-requires c = omega (arith, slices-few (goal.at.slice_start-next-requires c).Start)
+slice_start-next-requires c = (c.args.self.fraction, omega (arith, slices-few (goal.at.slice_start-next-requires c).Start))
 
 pub returns-then-self-next-clause-read : goal.returns-then-self-next-clause-read
 returns-then-self-next-clause-read c = left-refused _ _ _ _ _ _ (slice-short _ _ _ _ _ (starts (goal.at.returns-then-self-next-clause-read c).After-slice_start-next) (ends (goal.at.returns-then-self-next-clause-read c).After-slice_start-next) _ c.if-self-next.true)
@@ -63,7 +63,7 @@ read_header-requires c =
     let sound = c.args.self.fraction in
     let p = c.args.self.p in
     let k = c.args.number in
-    (omega (arith, own, size-least p sound.denominator_least sound.denominator_most k), omega (arith, own, size-most p sound.denominator_least k, sound.numerator_most), omega (arith, c.slice_start-start.ensures.1))
+    (c.args.self.checked, omega (arith, own, size-least p sound.denominator_least sound.denominator_most k), omega (arith, own, size-most p sound.denominator_least k, sound.numerator_most), omega (arith, c.slice_start-start.ensures.1))
 
 pub returns-in_err-header-clause-read : goal.returns-in_err-header-clause-read
 returns-in_err-header-clause-read c =

@@ -1,8 +1,8 @@
--- `low_delay::reader::SliceReader::read_header` meets its contract: it reads the numbers of the definition, whose tests it makes in their order.
+-- `low_delay::headers::read_header` meets its contract: it reads the numbers of the definition, whose tests it makes in their order.
 use mathlib.Core.Path.{sym, ◌∙◌}
 use native.Mathlib.Omega.{arith}
 use Rattle.low_delay.proofs.BoundsLaws.{header-long, header-index, header_read, header-sound}
-use Rattle.low_delay.proofs.reader.SliceReader.read_header.Goals as goal
+use Rattle.low_delay.proofs.headers.read_header.Goals as goal
 
 pub returns-then-own-middle-clause-result_value : goal.returns-then-own-middle-clause-result_value
 returns-then-own-middle-clause-result_value c = header-long _ _ _ _ _ _ c.read_bits-index.ensures.0 c.length_bits-n.ensures.0 c.read_bits.ensures.0 (omega (arith, c.if-own-middle.true))

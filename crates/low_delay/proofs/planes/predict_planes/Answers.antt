@@ -1,8 +1,8 @@
--- `low_delay::reader::SliceReader::predict_planes` meets its contract: the planes are predicted in their order, and the first with a value that does not fit settles it.
+-- `low_delay::planes::predict_planes` meets its contract: the planes are predicted in their order, and the first with a value that does not fit settles it.
 use Rattle.std.proofs.Common.{rules}
 use Rattle.std.proofs.lemmas.Result.{err_from_is_err_and}
 use Rattle.low_delay.proofs.BoundsLaws.{luma-out, first_out, all_told, all_done}
-use Rattle.low_delay.proofs.reader.SliceReader.predict_planes.Goals as goal
+use Rattle.low_delay.proofs.planes.predict_planes.Goals as goal
 
 pub returns-in_err-predict_plane-clause-told : goal.returns-in_err-predict_plane-clause-told
 returns-in_err-predict_plane-clause-told c =

@@ -8,7 +8,7 @@ use Rattle.slices.proofs.ReadsLaws.{blank-zeros, left-on}
 use Rattle.slices.proofs.StoresLaws.{same_planes-then}
 use Rattle.low_delay.specs.Job.{result, outcome}
 use Rattle.low_delay.proofs.JobLaws.{zeros-same, slices-read, slices-refused, slices-over}
-use Rattle.low_delay.proofs.reader.SliceReader.read_slices.Goals as goal
+use Rattle.low_delay.proofs.read_slices.Goals as goal
 
 pub loop-k-init : goal.loop-k-init
 loop-k-init c =
