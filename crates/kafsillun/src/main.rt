@@ -2,7 +2,7 @@
 #![tactic(auto)]
 
 use contents::table::entry_count;
-use recording::{AREA_MOST, FILE_ROOM, TEXT_ROOM, output_part, part_count};
+use recording::{AREA_MOST, FILE_ROOM, TEXT_ROOM, part_count, put_part};
 use std::env::{Env, FillError};
 use std::fs::File;
 use std::io;
@@ -80,7 +80,7 @@ fn write_output<R: Print + AllocGlobal>(rt: &R, errors: &Stderr, file: &[u8]) ->
     let mut text = TextBuffer::<TEXT_ROOM>::new();
     let entries = entry_count(file);
     for k in 0..part_count(entries) {
-        output_part(
+        put_part(
             file,
             entries,
             k,

@@ -6,7 +6,7 @@ use low_delay::parameters::LowDelay;
 use slices::parameters::Picture;
 use std::io;
 use text::TextBuffer;
-use vector_io::{LINE_ROOM, put_answer, put_named};
+use vector_io::{LINE_ROOM, append_answer, append_named};
 
 // Writes the line of a job and its answer.
 pub(crate) fn print_answer(
@@ -17,10 +17,10 @@ pub(crate) fn print_answer(
 ) -> io::Result<()> {
     let mut line = TextBuffer::<LINE_ROOM>::new();
     put_picture(&mut line, p.picture);
-    put_named(&mut line, b" of ", u64::from(p.numerator));
-    put_named(&mut line, b"/", u64::from(p.denominator));
-    put_named(&mut line, b" bytes ", bytes as u64);
-    put_answer(&mut line, answer);
+    append_named(&mut line, b" of ", u64::from(p.numerator));
+    append_named(&mut line, b"/", u64::from(p.denominator));
+    append_named(&mut line, b" bytes ", bytes as u64);
+    append_answer(&mut line, answer);
     line.put_word(b"\n");
     rt.write_all(line.as_bytes())
 }
@@ -32,8 +32,8 @@ fn put_picture(text: &mut TextBuffer<LINE_ROOM>, p: Picture)
 {
     put_pair(text, b"", p.luma_width, p.luma_height);
     put_pair(text, b" chroma ", p.chroma_width, p.chroma_height);
-    put_named(text, b" depth ", u64::from(p.depth));
-    put_named(text, b" intra ", u64::from(p.intra));
+    append_named(text, b" depth ", u64::from(p.depth));
+    append_named(text, b" intra ", u64::from(p.intra));
     put_pair(text, b" slices ", p.slices_across, p.slices_down);
 }
 
@@ -42,6 +42,6 @@ fn put_pair(text: &mut TextBuffer<LINE_ROOM>, name: &[u8], across: u32, down: u3
     requires { length text.old + length name.now + 41 ≤ 4096 }
     ensures { length text.new ≤ length text.old + length name.now + 41 }
 {
-    put_named(text, name, u64::from(across));
-    put_named(text, b"x", u64::from(down));
+    append_named(text, name, u64::from(across));
+    append_named(text, b"x", u64::from(down));
 }

@@ -4,10 +4,12 @@
 mod planes;
 mod results;
 
-ghost use Rattle.std.specs.Prelude.{◌≡◌, ◌++◌, ◌<◌, ℕ, length};
+ghost use Rattle.std.specs.Prelude.{◌≡◌, ◌<◌, ℕ, length, take};
+ghost use Rattle.io.specs.Counts.{IsPrefixLen};
 ghost use Rattle.contents.specs.Counts.{nonzero};
 ghost use Rattle.contents.specs.Table.{entry_count};
 ghost use Rattle.component.specs.Answers.{answer_of};
+ghost use Rattle.text.specs.Slices.{Extended};
 ghost use Rattle.recording.specs.Output.{plane_length, sample_length, entry_status, body_lines, entry_text};
 ghost use Rattle.recording.specs.Parts.{part_count, part};
 
@@ -17,7 +19,7 @@ use base::status::Refusal;
 use component::parameters::{Parameters, Refused};
 use contents::table::{FILE_MOST, entry_at};
 use decode::decode;
-use text::TextBuffer;
+use text::{TextBuffer, TextSlice};
 
 // Room for a recording, with one byte more, which tells that a file is too long.
 pub const FILE_ROOM: usize = FILE_MOST + 1;
@@ -36,10 +38,35 @@ pub fn part_count(entries: Option<usize>) -> usize
     entries.unwrap_or(1)
 }
 
-// Puts part k of what a file with so many entries decodes to into the text, in place of what stood there. The planes may hold anything
-// before and after.
+// Puts part k of what a file with so many entries decodes to at the start of the text, and answers how long it is. The planes may hold
+// anything before and after, and the text anything behind the part.
 #[tactic(auto, unfolding(crate::specs::Parts::part, crate::specs::Parts::part_count, contents::specs::Counts::nonzero, text::specs::Text::ascii))]
 pub fn output_part(
+    file: &[u8],
+    entries: Option<usize>,
+    k: usize,
+    coefficients: &mut [i32; AREA_MOST],
+    work: &mut [i32; AREA_MOST],
+    samples: &mut [i32; AREA_MOST],
+    text: &mut [u8; TEXT_ROOM],
+) -> usize
+    requires { (entries ≡ nonzero (entry_count file.now)) × (k < part_count (entry_count file.now)) }
+    ensures text_after { take result text.new ≡ part file.now k }
+    ensures prefix_len { IsPrefixLen result text.new }
+{
+    let mut text = TextSlice {
+        bytes: text,
+        end: 0,
+    };
+    match entries {
+        Some(_) => entry_text(file, k, coefficients, work, samples, &mut text),
+        None => text.put_word(b"refused 11\n"),
+    }
+    text.end
+}
+
+// Puts the same part into a buffer, in place of its text.
+pub fn put_part(
     file: &[u8],
     entries: Option<usize>,
     k: usize,
@@ -52,10 +79,15 @@ pub fn output_part(
     ensures { text.new ≡ part file.now k }
 {
     text.clear();
-    match entries {
-        Some(_) => entry_text(file, k, coefficients, work, samples, text),
-        None => text.put_word(b"refused 11\n"),
-    }
+    text.end += output_part(
+        file,
+        entries,
+        k,
+        coefficients,
+        work,
+        samples,
+        &mut text.bytes,
+    );
 }
 
 // Puts the lines of entry k of a recording whose table is right.
@@ -66,12 +98,13 @@ fn entry_text(
     coefficients: &mut [i32],
     work: &mut [i32],
     samples: &mut [i32],
-    text: &mut TextBuffer<TEXT_ROOM>,
+    text: &mut TextSlice<'_>,
 )
     requires k_bound { k < entry_count file.now }
     requires coefficients_len { (length coefficients.old ≡ 16384) × (length work.old ≡ 16384) × (length samples.old ≡ 16384) }
-    requires no_text { length text.old ≡ 0 }
-    ensures { text.new ≡ text.old ++ entry_text file.now k }
+    requires no_text { text.old.end ≡ 0 }
+    requires text_len { length text.old.bytes.now ≡ 204800 }
+    ensures { Extended text.old (entry_text file.now k) text.new }
 {
     let entry = entry_at(file, k);
     let p = entry.parameters;
@@ -98,12 +131,13 @@ fn decoded_text(
     coefficients: &mut [i32],
     work: &mut [i32],
     samples: &mut [i32],
-    text: &mut TextBuffer<TEXT_ROOM>,
+    text: &mut TextSlice<'_>,
 )
     requires coefficients_len { (length coefficients.old ≡ plane_length p) × (length work.old ≡ plane_length p)
         × (length samples.old ≡ sample_length p) }
-    requires no_text { length text.old ≡ 0 }
-    ensures { text.new ≡ text.old ++ body_lines k p body.now }
+    requires no_text { text.old.end ≡ 0 }
+    requires text_len { length text.old.bytes.now ≡ 204800 }
+    ensures { Extended text.old (body_lines k p body.now) text.new }
 {
     let decoded = decode(p, body, coefficients, work, samples);
     put_entry(text, k, p, entry_result(decoded, body.len()), samples);

@@ -4,13 +4,13 @@ ghost use Rattle.std.specs.Prelude.{◌≤◌};
 use component::parameters::{Answer, Parameters};
 use std::io;
 use text::TextBuffer;
-use vector_io::{LINE_ROOM, print_row, put_answer, put_job};
+use vector_io::{LINE_ROOM, append_answer, append_job, print_row};
 
 // Writes the line of a job and its answer.
 pub(crate) fn print_answer(rt: &impl Print, p: Parameters, answer: Answer) -> io::Result<()> {
     let mut line = TextBuffer::<LINE_ROOM>::new();
-    put_job(&mut line, p);
-    put_answer(&mut line, answer);
+    append_job(&mut line, p);
+    append_answer(&mut line, answer);
     line.put_word(b"\n");
     rt.write_all(line.as_bytes())
 }

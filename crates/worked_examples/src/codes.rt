@@ -4,7 +4,7 @@ ghost use Rattle.std.specs.Prelude.{◌+◌, ◌≤◌, length};
 use exp_golomb::codes::read_unsigned;
 use std::io;
 use text::TextBuffer;
-use vector_io::{LINE_ROOM, put_named};
+use vector_io::{LINE_ROOM, append_named};
 
 // Reads codes of 31 data bits, of 32, and of 31 with nothing after them.
 pub(crate) fn read_longest_codes(rt: &impl Print) -> io::Result<()> {
@@ -58,7 +58,7 @@ fn read_and_print(
     match number {
         Ok(read) => {
             put_end(&mut line, 0, read.next);
-            put_named(&mut line, b": ", u64::from(read.size));
+            append_named(&mut line, b": ", u64::from(read.size));
         }
         Err(fault) => put_end(&mut line, fault.refusal.number(), fault.bit),
     }
@@ -72,6 +72,6 @@ fn put_end(text: &mut TextBuffer<LINE_ROOM>, status: u32, next: usize)
     requires { length text.old + 60 ≤ 4096 }
     ensures { length text.new ≤ length text.old + 60 }
 {
-    put_named(text, b": status ", u64::from(status));
-    put_named(text, b" next bit ", next as u64);
+    append_named(text, b": status ", u64::from(status));
+    append_named(text, b" next bit ", next as u64);
 }

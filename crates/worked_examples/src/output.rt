@@ -4,7 +4,7 @@ ghost use Rattle.std.specs.Prelude.{◌≤◌, length};
 use component::parameters::Answer;
 use std::io;
 use text::TextBuffer;
-use vector_io::{LINE_ROOM, print_row, put_answer};
+use vector_io::{LINE_ROOM, append_answer, print_row};
 
 // Writes the line of a job's case: what it is, the answer, and the plane after it.
 pub(crate) fn print_case(
@@ -16,7 +16,7 @@ pub(crate) fn print_case(
     requires { length plane.now ≤ 16 }
 {
     let mut line = TextBuffer::<LINE_ROOM>::new();
-    put_answer(&mut line, answer);
+    append_answer(&mut line, answer);
     line.put_word(b": ");
     line.put_row(plane);
     rt.write_all(case)?;

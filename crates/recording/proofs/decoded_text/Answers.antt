@@ -1,7 +1,5 @@
 -- `recording::decoded_text` meets its contract: what decode gives is what the entry's lines tell, whatever stood in the planes.
 use mathlib.Core.Path.{sym, ap, ◌∙◌}
-use mathlib.Core.List.{List, ◌++◌}
-use Prim.Native.Nat.{ℕ}
 use Rattle.decode.specs.Job.{DecodeResult, outcome}
 use Rattle.recording.proofs.OutputLaws.{samples-fit, entry-accepted, lines_of}
 use Rattle.recording.proofs.decoded_text.Goals as goal
@@ -16,4 +14,4 @@ put_entry-requires-clause-samples_len c fine =
 pub returns : goal.returns
 returns c =
     let same = lines_of _ _ _ _ _ c.requires.coefficients_len.0 c.requires.coefficients_len.1 c.requires.coefficients_len.2 c.args.k _ _ _ _ c.decode-decoded.ensures _ c.entry_result.ensures.status c.entry_result.ensures.place in
-    c.put_entry.ensures ∙ ap (λ (l : List ℕ). c.args.text.now ++ l) same
+    rw (← same) c.put_entry.ensures

@@ -1,7 +1,5 @@
 -- `recording::entry_text` meets its contract: the entry's body is a part of the file, and its planes are parts of the program's.
-use mathlib.Core.Path.{sym, ap, ◌∙◌}
-use mathlib.Core.List.{List, ◌++◌}
-use Prim.Native.Nat.{ℕ}
+use mathlib.Core.Path.{sym, ◌∙◌}
 use native.Mathlib.Omega.{arith}
 use lib.Seq.{length-take-le}
 use Rattle.contents.proofs.TableLaws.{part-inside, part-is-body}
@@ -40,11 +38,11 @@ decoded_text-requires c =
         length-take-le _ _ (omega (arith, count, sample_most p, lengths.2)) ∙ count,
       );
       no_text = c.requires.no_text;
+      text_len = c.requires.text_len;
     }
 
 pub returns : goal.returns
 returns c =
     let file = c.args.file.now in
     let bytes = part-is-body file c.args.k c.requires.k_bound c.entry_at-entry.result c.entry_at-entry.ensures in
-    c.decoded_text.ensures
-    ∙ ap (λ (l : List ℕ). c.args.text.now ++ l) (text_of file c.args.k c.entry_at-entry.result c.entry_at-entry.ensures _ bytes)
+    rw (← text_of file c.args.k c.entry_at-entry.result c.entry_at-entry.ensures _ bytes) c.decoded_text.ensures
