@@ -3,7 +3,7 @@ use Rattle.std.specs.Prelude.{ℕ, ◌≡◌, ◌≤◌, List, length}
 use Rattle.text.specs.declared.slice.TextSlice.{TextSlice}
 use Rattle.text.specs.Put.{Put}
 
--- The text goes on by a piece, in the same bytes, which are as many as before.
+-- The text goes on by a piece, in the same bytes: they are as many as before, and it ends within them.
 abbrev pub Extended : TextSlice → List ℕ → TextSlice → Type 0
 Extended earlier piece later =
     (later.bytes.ghost_name ≡ earlier.bytes.ghost_name)
